@@ -5,3 +5,4 @@ pub mod Formula
 pub mod Functions
 pub mod Lexemes
 pub mod Tokens
+pub mod Words

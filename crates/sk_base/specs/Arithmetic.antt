@@ -38,7 +38,8 @@ places_of ty count = unsigned_abs (int_rem_euclid count (pos (bits_of ty)))
 abbrev pub flag : Bool → ℤ
 flag test = if test then pos 1 else pos 0
 
--- Sums, differences, products and shifts to the left wrap. A quotient is rounded toward zero, and a remainder has
+-- Sums, differences, products and shifts to the left wrap. A quotient is rounded toward zero and wraps too: the least
+-- number divided by -1 is itself. A remainder has
 -- the dividend's sign. A shift to the right copies the sign bit. A comparison gives 1 or 0.
 abbrev pub op_of : Op → Ty → ℤ → ℤ → Result ℤ Trap
 op_of Add ty a b = Ok (wrapped ty (a +ℤ b))

@@ -1,3 +1,2 @@
 pub mod Arithmetic
 pub mod Shape
-pub mod Sizes

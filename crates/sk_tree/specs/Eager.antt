@@ -6,8 +6,7 @@ use Rattle.sk_base.specs.declared.number.Ty.TheVariants.{Int}
 use Rattle.sk_base.specs.declared.number.Trap.{Trap}
 use Rattle.sk_base.specs.declared.number.Trap.TheVariants.{Shape}
 use Rattle.sk_base.specs.Arithmetic.{wrapped}
-use Rattle.sk_base.specs.Shape.{cells_of}
-use Rattle.sk_base.specs.Sizes.{shape_of}
+use Rattle.sk_base.specs.Shape.{cells_of, shape_of}
 use Rattle.sk_tree.specs.Bindings.{bound_to, rebound}
 use Rattle.sk_tree.specs.Expressions.{Names, meaning_of, values_of}
 use Rattle.sk_tree.specs.Evaluation.{Callable, Callables, callables_of, element_of}

@@ -1,0 +1,9 @@
+use Rattle.std.proofs.Common.{◌∙◌, ap, pos, ◌+ℤ◌, ◌-ℤ◌, ◌*ℤ◌, ◌^◌}
+use Rattle.sk_base.specs.Arithmetic.{wrapped, places_of}
+use Rattle.sk_base.proofs.arithmetic.sum.Goals as goal
+use Rattle.sk_base.proofs.Wrapping.{stored, wrapped-Long, low_half, wrapped-wrapping_add, wrapped-wrapping_sub, wrapped-wrapping_mul, wrapped-int_shl}
+
+pub returns : goal.returns
+returns c =
+    stored c.args.ty c.convert.result (c.args.a +ℤ c.args.b)
+    (c.convert.ensures ∙ wrapped-wrapping_add c.args.ty c.args.a c.args.b c.ranges.a c.ranges.b)

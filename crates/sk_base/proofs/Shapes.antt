@@ -9,7 +9,7 @@ use Rattle.std.proofs.lemmas.Nat.{mul-le, mul-mod_first}
 use Rattle.std.proofs.Math.Nat.{mul-le-mul_left}
 use Rattle.std.proofs.Math.ListN.{drop_of_length-le}
 use Rattle.std.proofs.Math.Seq.{take-length, drop-length}
-use Rattle.sk_base.specs.Shape.{cells_of, IsShape, is_shape, sizes_of, shape_of, flat_from, flat_of}
+use Rattle.sk_base.specs.Shape.{cells_of, IsShape, AreSizes, is_shape, sizes_of, shape_of, flat_from, flat_of}
 use Rattle.sk_base.specs.ShapeLaws.{cells_of-append, shape_of-pos, shape_of-some}
 
 pub cells_of-more : (sizes : List ℕ) (i : ℕ) → i < length sizes → cells_of (take (i + 1) sizes) ≡ cells_of (take i sizes) * get_or sizes i 0
@@ -109,8 +109,7 @@ walked-high index i sizes place (pos at) bound walked within within_place is bou
 walked-high index i sizes place (negsuc at) bound walked within within_place is bound_is high =
     walked-negative index i sizes place at walked within within_place is
 
--- sizes in range are the numbers of a shape's sizes
-abbrev pub IsSize : ℤ → Type 0
+abbrev IsSize : ℤ → Type 0
 IsSize size = (pos 0 ≤ℤ size) × (size ≤ℤ pos (2 ^ 24))
 
 pub map-pos-unsigned_abs : (zs : List ℤ) → All IsSize zs → map pos (map unsigned_abs zs) ≡ zs
@@ -126,14 +125,14 @@ sizes_bounded (z ∷ zs) each = All-cons (λ size. size ≤ 2 ^ 24) (unsigned_ab
     bounded (pos n) h = omega (arith, ints, h.1)
     bounded (negsuc n) h = absurd (omega (arith, ints, h.0))
 
-pub IsShape-unsigned_abs : (zs : List ℤ) → All IsSize zs → 1 ≤ length zs → length zs ≤ 4 → cells_of (map unsigned_abs zs) ≤ 2 ^ 24 → IsShape (map unsigned_abs zs)
-IsShape-unsigned_abs zs each some few product =
+pub IsShape-unsigned_abs : (zs : List ℤ) → AreSizes zs → cells_of (map unsigned_abs zs) ≤ 2 ^ 24 → IsShape (map unsigned_abs zs)
+IsShape-unsigned_abs zs are product =
     let counts = length-map zs unsigned_abs in
-    record { some = omega (arith, counts); few = omega (arith, counts); each = sizes_bounded zs each; product = product }
+    record { some = omega (arith, counts); few = omega (arith, counts); each = sizes_bounded zs are.each; product = product }
 
-pub shape_found : (zs : List ℤ) → All IsSize zs → 1 ≤ length zs → length zs ≤ 4 → cells_of (map unsigned_abs zs) ≤ 2 ^ 24 → Some (map unsigned_abs zs) ≡ shape_of zs
-shape_found zs each some few product =
-    sym (shape_of-pos (map unsigned_abs zs) (IsShape-unsigned_abs zs each some few product)) ∙ ap shape_of (map-pos-unsigned_abs zs each)
+pub shape_found : (zs : List ℤ) → AreSizes zs → cells_of (map unsigned_abs zs) ≤ 2 ^ 24 → Some (map unsigned_abs zs) ≡ shape_of zs
+shape_found zs are product =
+    sym (shape_of-pos (map unsigned_abs zs) (IsShape-unsigned_abs zs are product)) ∙ ap shape_of (map-pos-unsigned_abs zs are.each)
 
 -- no shape is found, where no shape has these sizes
 no_shape : (zs : List ℤ) → ((sizes : List ℕ) → IsShape sizes → map pos sizes ≡ zs → ⊥) → None ≡ shape_of zs
@@ -143,16 +142,17 @@ no_shape zs none = by (shape_of zs) refl
     by None e = sym e
     by (Some sizes) e = let found = shape_of-some zs sizes e in absurd (none sizes found.0 found.1)
 
-pub no_shape-count : (zs : List ℤ) → (length zs ≡ 0) ⊎ (4 < length zs) → None ≡ shape_of zs
-no_shape-count zs wrong =
+pub no_shape-sizes : (zs : List ℤ) → (AreSizes zs → ⊥) → None ≡ shape_of zs
+no_shape-sizes zs wrong =
     no_shape zs (λ sizes shape same.
-      let counts : length sizes ≡ length zs = sym (length-map sizes pos) ∙ ap length same in
-      elim wrong [ inl none ↦ omega (arith, shape.some) | inr many ↦ omega (arith, shape.few) ])
-
-pub no_shape-size : (zs : List ℤ) → (All IsSize zs → ⊥) → None ≡ shape_of zs
-no_shape-size zs wrong =
-    no_shape zs (λ sizes shape same.
-      wrong (subst (All IsSize) same (All-map IsSize pos sizes (All-weaker (λ size. size ≤ 2 ^ 24) (λ size. IsSize (pos size)) (λ size h. (omega (arith, ints), omega (arith, ints))) sizes shape.each))))
+      let counts = length-map sizes pos in
+      let are : AreSizes (map pos sizes) =
+        record {
+          some = omega (arith, counts, shape.some);
+          few = omega (arith, counts, shape.few);
+          each = All-map IsSize pos sizes (All-weaker (λ size. size ≤ 2 ^ 24) (λ size. IsSize (pos size)) (λ size h. (omega (arith, ints), omega (arith, ints))) sizes shape.each)
+        } in
+      wrong (subst AreSizes same are))
 
 pub no_shape-product : (zs : List ℤ) → 2 ^ 24 < cells_of (map unsigned_abs zs) → None ≡ shape_of zs
 no_shape-product zs large =

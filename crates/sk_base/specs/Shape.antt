@@ -1,5 +1,5 @@
 -- Shapes: lists of sizes, and the row-major order of places.
-use Rattle.std.specs.Prelude.{ℕ, ◌+◌, ◌*◌, ◌^◌, ◌≤◌, Bool, ◌&&◌, List, [], ◌∷◌, length, All, ℤ, pos, negsuc, Option, Some, None, nat_lt, nat_le, option_map, option_and_then, if◌then◌else◌}
+use Rattle.std.specs.Prelude.{ℕ, ◌+◌, ◌*◌, ◌^◌, ◌≤◌, Bool, ◌&&◌, List, [], ◌∷◌, length, All, ℤ, pos, negsuc, ◌≤ℤ◌, Option, Some, None, nat_lt, nat_le, option_map, option_and_then, if◌then◌else◌}
 use Rattle.std.specs.List.{list_all}
 
 -- how many cells a container with these sizes has
@@ -14,7 +14,13 @@ pub record IsShape (sizes : List ℕ) : Type 0 where
   pub each : All (λ size. size ≤ 2 ^ 24) sizes
   pub product : cells_of sizes ≤ 2 ^ 24
 
--- the same as a test
+-- one to four sizes, none negative and each at most 2^24, of which nothing is known together
+pub record AreSizes (sizes : List ℤ) : Type 0 where
+  pub some : 1 ≤ length sizes
+  pub few : length sizes ≤ 4
+  pub each : All (λ size. (pos 0 ≤ℤ size) × (size ≤ℤ pos (2 ^ 24))) sizes
+
+-- `IsShape` as a test
 abbrev pub is_shape : List ℕ → Bool
 is_shape sizes = nat_le 1 (length sizes) && nat_le (length sizes) 4 && list_all (λ size. nat_le size (2 ^ 24)) sizes && nat_le (cells_of sizes) (2 ^ 24)
 

@@ -1,5 +1,5 @@
-ghost use Rattle.std.specs.Prelude.{◌≡◌, ℕ, ℤ, pos, ◌+◌, ◌^◌, ◌≤◌, ◌≤ℤ◌, ◌↔◌, min, map, length, All, IsTrue, IfSome, unsigned_abs};
-ghost use Rattle.sk_base.specs.Shape.{IsShape, cells_of, shape_of, flat_of};
+ghost use Rattle.std.specs.Prelude.{◌≡◌, ◌+◌, ◌^◌, ◌≤◌, ◌↔◌, min, map, IsTrue, IfSome, unsigned_abs};
+ghost use Rattle.sk_base.specs.Shape.{IsShape, AreSizes, cells_of, shape_of, flat_of};
 
 use smallvec::SmallVec;
 use std::alloc::Global;
@@ -34,7 +34,7 @@ impl Shape {
         ensures value { result ≡ shape_of sizes.now }
         ensures shape { IfSome result (λ shape. IsShape shape) }
     {
-        if sizes.is_empty() || sizes.len() > 4 || !sizes.iter().all(|&size| is_size(size)) {
+        if !are_sizes(sizes) {
             return None;
         }
         let sizes = numbers(alloc, sizes);
@@ -76,15 +76,14 @@ impl Shape {
     }
 }
 
-fn is_size(size: i64) -> bool
-    ensures { IsTrue result ↔ ((pos 0 ≤ℤ size) × (size ≤ℤ pos (2 ^ 24))) }
+fn are_sizes(sizes: &[i64]) -> bool
+    ensures { IsTrue result ↔ AreSizes sizes.now }
 {
-    0 <= size && size <= i64::from(MOST_CELLS)
+    (1..=4).contains(&sizes.len()) && sizes.iter().all(|size| (0..=i64::from(MOST_CELLS)).contains(size))
 }
 
 fn numbers(alloc: Global, sizes: &[i64]) -> SmallVec<u32, 4>
-    requires few { length sizes.now ≤ 4 }
-    requires each { All (λ size. (pos 0 ≤ℤ size) × (size ≤ℤ pos (2 ^ 24))) sizes.now }
+    requires { AreSizes sizes.now }
     ensures items { result.items ≡ map unsigned_abs sizes.now }
     ensures inline { result.capacity ≡ 4 }
 {

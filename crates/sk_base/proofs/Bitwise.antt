@@ -60,13 +60,13 @@ same_result operation of_signs is a b f g =
     let t = operation (low a) (low b) in
     let small : t < 2 ^ 31 = is.below (low a) (low b) (low_below a f) (low_below b g) in
     let wide : operation (cast_unsigned w64 a) (cast_unsigned w64 b) ≡ high64 s * 2 ^ 31 + t =
-      ap (λ x. operation x (cast_unsigned w64 b)) (split64 a f) ∙ ap (λ y. operation (high64 (sign a) * 2 ^ 31 + low a) y) (split64 b g)
-      ∙ is.blocks (high64 (sign a)) (high64 (sign b)) (low a) (low b) (low_below a f) (low_below b g)
-      ∙ ap (λ h. h * 2 ^ 31 + t) (is.at_64 (sign a) (sign b)) in
+    ap (λ x. operation x (cast_unsigned w64 b)) (split64 a f) ∙ ap (λ y. operation (high64 (sign a) * 2 ^ 31 + low a) y) (split64 b g)
+    ∙ is.blocks (high64 (sign a)) (high64 (sign b)) (low a) (low b) (low_below a f) (low_below b g)
+    ∙ ap (λ h. h * 2 ^ 31 + t) (is.at_64 (sign a) (sign b)) in
     let narrow : operation (cast_unsigned w32 a) (cast_unsigned w32 b) ≡ high32 s * 2 ^ 31 + t =
-      ap (λ x. operation x (cast_unsigned w32 b)) (split32 a f) ∙ ap (λ y. operation (high32 (sign a) * 2 ^ 31 + low a) y) (split32 b g)
-      ∙ is.blocks (high32 (sign a)) (high32 (sign b)) (low a) (low b) (low_below a f) (low_below b g)
-      ∙ ap (λ h. h * 2 ^ 31 + t) (is.at_32 (sign a) (sign b)) in
+    ap (λ x. operation x (cast_unsigned w32 b)) (split32 a f) ∙ ap (λ y. operation (high32 (sign a) * 2 ^ 31 + low a) y) (split32 b g)
+    ∙ is.blocks (high32 (sign a)) (high32 (sign b)) (low a) (low b) (low_below a f) (low_below b g)
+    ∙ ap (λ h. h * 2 ^ 31 + t) (is.at_32 (sign a) (sign b)) in
     ap (cast_signed w64) wide ∙ joined s t small ∙ sym (ap (cast_signed w32) narrow)
 
 abbrev xor_signs : Bool → Bool → Bool

@@ -1,5 +1,5 @@
 -- Steps of the loops over sizes and places.
-use Rattle.std.specs.Prelude.{◌≡◌, ◌≢◌, ℕ, zero, suc, ◌+◌, ◌-◌, ◌*◌, ◌%◌, ◌^◌, ◌<◌, ◌≤◌, ◌⊎◌, min, Bool, true, false, List, [], ◌∷◌, ◌++◌, length, map, take, drop, get_or, All, ℤ, pos, negsuc, ◌≤ℤ◌, ◌<ℤ◌, unsigned_abs, int_lt, int_le, Option, Some, None, nat_lt, if◌then◌else◌}
+use Rattle.std.specs.Prelude.{◌≡◌, ℕ, zero, suc, ◌+◌, ◌*◌, ◌%◌, ◌^◌, ◌<◌, ◌≤◌, min, Bool, true, false, List, [], ◌∷◌, length, map, take, drop, get_or, All, ℤ, pos, negsuc, ◌≤ℤ◌, unsigned_abs, int_lt, int_le, Option, Some, None, nat_lt, if◌then◌else◌}
 use Rattle.std.proofs.Common.{arith, refl, sym, ◌∙◌, ap, subst, inl, inr}
 use Rattle.std.proofs.lemmas.Bool.{cases_lt, lt-ltb, le-ltb, leb-false, leb-true, ltb-true, true≢false}
 use Rattle.std.proofs.lemmas.List.{take_more, drop_more, length-map}
@@ -9,7 +9,7 @@ use Rattle.std.proofs.lemmas.Nat.{mul-le, mul-mod_first}
 use Rattle.std.proofs.Math.Nat.{mul-le-mul_left}
 use Rattle.std.proofs.Math.ListN.{drop_of_length-le}
 use Rattle.std.proofs.Math.Seq.{take-length, drop-length}
-use Rattle.sk_base.specs.Shape.{cells_of, IsShape, AreSizes, is_shape, sizes_of, shape_of, flat_from, flat_of}
+use Rattle.sk_base.specs.Shape.{cells_of, IsShape, AreSizes, shape_of, flat_from, flat_of}
 use Rattle.sk_base.specs.ShapeLaws.{cells_of-append, shape_of-pos, shape_of-some}
 
 pub cells_of-more : (sizes : List ℕ) (i : ℕ) → i < length sizes → cells_of (take (i + 1) sizes) ≡ cells_of (take i sizes) * get_or sizes i 0
@@ -62,10 +62,10 @@ walked-more index i sizes place at walked within within_place is in_range =
       wraps = ap (λ n. (n + at) % 2 ^ 32) product ∙ omega arith;
       below = omega (arith, cells_of-more sizes i within);
       same =
-        ap (λ test. if test then rest else None) (sym (lt-ltb at size in_range))
-        ∙ sym (ap (λ z. flat_from exact (size ∷ drop (i + 1) sizes) (z ∷ drop (i + 1) place)) is)
-        ∙ sym (flat_from-more exact i sizes place within within_place)
-        ∙ walked.same
+          ap (λ test. if test then rest else None) (sym (lt-ltb at size in_range))
+          ∙ sym (ap (λ z. flat_from exact (size ∷ drop (i + 1) sizes) (z ∷ drop (i + 1) place)) is)
+          ∙ sym (flat_from-more exact i sizes place within within_place)
+          ∙ walked.same;
     }
 
 pub walked-negative : (index i : ℕ) (sizes : List ℕ) (place : List ℤ) (n : ℕ) → IsWalked index i sizes place → i < length sizes → i < length place → get_or place i (pos 0) ≡ negsuc n → None ≡ flat_of sizes place
@@ -89,7 +89,7 @@ walked-all index sizes place walked counts shape =
     let index_is : index ≡ walked.exact = walked.wraps ∙ omega arith in
     ap Some index_is
     ∙ sym (ap (λ rest. flat_from walked.exact rest (drop (length sizes) place)) (drop-length sizes)
-      ∙ ap (flat_from walked.exact []) (drop_of_length-le place (omega arith)))
+    ∙ ap (flat_from walked.exact []) (drop_of_length-le place (omega arith)))
     ∙ walked.same
 
 -- the same steps, as the tests of a coordinate leave them
@@ -145,20 +145,20 @@ no_shape zs none = by (shape_of zs) refl
 pub no_shape-sizes : (zs : List ℤ) → (AreSizes zs → ⊥) → None ≡ shape_of zs
 no_shape-sizes zs wrong =
     no_shape zs (λ sizes shape same.
-      let counts = length-map sizes pos in
-      let are : AreSizes (map pos sizes) =
-        record {
-          some = omega (arith, counts, shape.some);
-          few = omega (arith, counts, shape.few);
-          each = All-map IsSize pos sizes (All-weaker (λ size. size ≤ 2 ^ 24) (λ size. IsSize (pos size)) (λ size h. (omega (arith, ints), omega (arith, ints))) sizes shape.each)
-        } in
-      wrong (subst AreSizes same are))
+    let counts = length-map sizes pos in
+    let are : AreSizes (map pos sizes) =
+    record {
+      some = omega (arith, counts, shape.some);
+      few = omega (arith, counts, shape.few);
+      each = All-map IsSize pos sizes (All-weaker (λ size. size ≤ 2 ^ 24) (λ size. IsSize (pos size)) (λ size h. (omega (arith, ints), omega (arith, ints))) sizes shape.each);
+    } in
+    wrong (subst AreSizes same are))
 
 pub no_shape-product : (zs : List ℤ) → 2 ^ 24 < cells_of (map unsigned_abs zs) → None ≡ shape_of zs
 no_shape-product zs large =
     no_shape zs (λ sizes shape same.
-      let back : map unsigned_abs zs ≡ sizes = ap (map unsigned_abs) (sym same) ∙ unsigned_abs-pos sizes in
-      omega (arith, shape.product, ap cells_of back))
+    let back : map unsigned_abs zs ≡ sizes = ap (map unsigned_abs) (sym same) ∙ unsigned_abs-pos sizes in
+    omega (arith, shape.product, ap cells_of back))
   where
     unsigned_abs-pos : (sizes : List ℕ) → map unsigned_abs (map pos sizes) ≡ sizes
     unsigned_abs-pos [] = refl

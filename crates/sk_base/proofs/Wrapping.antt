@@ -1,6 +1,6 @@
 -- What wrapping at one width says of another, and what machine operations on 64 bits leave of an exact result.
-use Rattle.std.specs.Prelude.{◌≡◌, ℕ, zero, suc, ◌+◌, ◌-◌, ◌*◌, ◌/◌, ◌%◌, ◌^◌, ◌<◌, ◌≤◌, ◌⊎◌, ℤ, pos, negsuc, neg_ℤ, ◌+ℤ◌, ◌-ℤ◌, ◌*ℤ◌, ◌≢◌, Ok, Err, bit_and, FitsSigned, unsigned_abs, int_div, int_rem}
-use Rattle.std.specs.Int.{Width, w32, w64, w128, int_wrap, int_shl, int_shr, cast_signed, cast_unsigned, int_rem_euclid, int_wrapping_add, int_wrapping_sub, int_wrapping_mul, int_wrapping_div}
+use Rattle.std.specs.Prelude.{◌≡◌, ℕ, zero, suc, ◌-◌, ◌*◌, ◌/◌, ◌%◌, ◌^◌, ◌<◌, ◌≤◌, ℤ, pos, negsuc, neg_ℤ, ◌+ℤ◌, ◌-ℤ◌, ◌*ℤ◌, ◌≢◌, Ok, bit_and, FitsSigned, unsigned_abs, int_div, int_rem}
+use Rattle.std.specs.Int.{Width, w32, w64, w128, int_wrap, int_shl, int_shr, cast_signed, cast_unsigned, int_wrapping_add, int_wrapping_sub, int_wrapping_mul, int_wrapping_div}
 use Rattle.std.proofs.lemmas.Nat.{pow_below, and_mask, and_le_r}
 use Rattle.std.proofs.Math.Nat.{div-le_self}
 use lib.Signed.{mag_rem}
@@ -38,6 +38,7 @@ shifted_down r h = elim (cases_lt r (2 ^ 31)) [ inl s ↦ above s | inr s ↦ be
     above s =
         let low : r * 2 ^ 32 / 2 ^ 32 ≡ r = omega arith in
         ap (λ z. int_shr z 32) (to_z_pos w64 (r * 2 ^ 32) (omega arith)) ∙ ap pos low ∙ sym (to_z_pos w32 r s)
+
     below : 2 ^ 31 ≤ r → int_shr (cast_signed w64 (r * 2 ^ 32)) 32 ≡ cast_signed w32 r
     below s =
         let k = 2 ^ 64 - suc (r * 2 ^ 32) in

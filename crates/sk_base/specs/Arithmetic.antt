@@ -1,5 +1,5 @@
 -- Arithmetic of the language: the exact whole-number result, reduced to the type's width.
-use Rattle.std.specs.Prelude.{ℕ, zero, suc, ◌*◌, ◌^◌, Bool, true, false, not, ◌&&◌, ℤ, pos, negsuc, ◌+ℤ◌, ◌-ℤ◌, ◌*ℤ◌, Result, Ok, Err, int_lt, int_le, int_div, int_rem, unsigned_abs, FitsSigned, if◌then◌else◌}
+use Rattle.std.specs.Prelude.{ℕ, zero, suc, ◌^◌, Bool, true, false, not, ◌&&◌, ℤ, pos, negsuc, ◌+ℤ◌, ◌-ℤ◌, ◌*ℤ◌, Result, Ok, Err, int_lt, int_le, int_div, int_rem, unsigned_abs, FitsSigned, if◌then◌else◌}
 use Rattle.std.specs.Int.{Width, w32, w64, int_wrap, int_rem_euclid, int_shr, int_bit_and, int_bit_or, int_bit_xor}
 use Rattle.sk_base.specs.declared.number.Ty.{Ty}
 use Rattle.sk_base.specs.declared.number.Ty.TheVariants.{Int, Long}

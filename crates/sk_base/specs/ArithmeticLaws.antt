@@ -1,8 +1,8 @@
 -- What follows from the definitions of arithmetic: results are in range, and what is in range is left as it is.
-use Rattle.std.specs.Prelude.{◌≡◌, ℕ, zero, suc, ◌<◌, ◌^◌, Bool, true, false, ℤ, pos, negsuc, FitsSigned, IfOk, int_div, int_rem, int_lt, int_le, ◌&&◌, not, if◌then◌else◌}
-use Rattle.std.specs.Int.{w32, w64, int_wrap, cast_signed, cast_unsigned, int_shr, int_bit_and, int_bit_or, int_bit_xor}
-use Rattle.std.proofs.Common.{arith, refl, ap, subst, sym, ◌∙◌}
-use Rattle.std.proofs.lemmas.Int.{SFits-int_wrap, int_wrap_fits, to_z-of_z}
+use Rattle.std.specs.Prelude.{◌≡◌, ℕ, zero, suc, ◌^◌, Bool, true, false, ℤ, pos, negsuc, IfOk, int_div, int_rem}
+use Rattle.std.specs.Int.{cast_signed, int_shr}
+use Rattle.std.proofs.Common.{arith}
+use Rattle.std.proofs.lemmas.Int.{SFits-int_wrap, int_wrap_fits}
 use Rattle.sk_base.specs.declared.number.Ty.{Ty}
 use Rattle.sk_base.specs.declared.number.Ty.TheVariants.{Int, Long}
 use Rattle.sk_base.specs.declared.number.Op.{Op}

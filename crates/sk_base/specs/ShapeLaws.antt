@@ -1,5 +1,5 @@
 -- What follows from the definitions of shapes.
-use Rattle.std.specs.Prelude.{◌≡◌, ℕ, ◌+◌, ◌*◌, ◌^◌, ◌≤◌, Bool, true, false, List, [], ◌∷◌, ◌++◌, length, map, All, ℤ, pos, negsuc, Option, Some, None, nat_le, option_map, option_and_then, if◌then◌else◌}
+use Rattle.std.specs.Prelude.{◌≡◌, ℕ, ◌*◌, ◌^◌, ◌≤◌, Bool, true, false, List, [], ◌∷◌, ◌++◌, length, map, All, ℤ, pos, negsuc, Option, Some, None, nat_le, option_map, option_and_then, if◌then◌else◌}
 use Rattle.std.specs.List.{list_all}
 use Rattle.std.proofs.Common.{arith, refl, sym, ◌∙◌, ap, subst}
 use Rattle.std.proofs.lemmas.Bool.{and_parts, and_from, leb-true, le-leb, cond-true}
@@ -31,15 +31,15 @@ IsShape-from_test sizes passes =
       some = leb-true 1 (length sizes) ends.0;
       few = leb-true (length sizes) 4 ends.1;
       each = each-from_test sizes counts.1;
-      product = leb-true (cells_of sizes) (2 ^ 24) all.1
+      product = leb-true (cells_of sizes) (2 ^ 24) all.1;
     }
 
 pub is_shape-true : (sizes : List ℕ) → IsShape sizes → is_shape sizes ≡ true
 is_shape-true sizes is =
     and_from _ (nat_le (cells_of sizes) (2 ^ 24))
     (and_from _ (list_all (λ size. nat_le size (2 ^ 24)) sizes)
-      (and_from (nat_le 1 (length sizes)) (nat_le (length sizes) 4) (le-leb 1 (length sizes) is.some) (le-leb (length sizes) 4 is.few))
-      (test-from_each sizes is.each))
+    (and_from (nat_le 1 (length sizes)) (nat_le (length sizes) 4) (le-leb 1 (length sizes) is.some) (le-leb (length sizes) 4 is.few))
+    (test-from_each sizes is.each))
     (le-leb (cells_of sizes) (2 ^ 24) is.product)
 
 sizes_of-pos : (sizes : List ℕ) → sizes_of (map pos sizes) ≡ Some sizes
@@ -71,6 +71,7 @@ shape_of-some zs sizes found = by (sizes_of zs) refl
         let same : rest ≡ sizes = cc in
         (subst IsShape same (IsShape-from_test rest passed), ap (map pos) (sym same) ∙ sizes_of-some zs rest e)
     tested rest false e passed both = cc
+
     by : (o : Option (List ℕ)) → sizes_of zs ≡ o → IsShape sizes × (map pos sizes ≡ zs)
     by None e =
         let not_found : None ≡ Some sizes = sym (ap (option_and_then (λ shape. if is_shape shape then Some shape else None)) e) ∙ found in

@@ -79,7 +79,10 @@ impl Shape {
 fn are_sizes(sizes: &[i64]) -> bool
     ensures { IsTrue result ↔ AreSizes sizes.now }
 {
-    (1..=4).contains(&sizes.len()) && sizes.iter().all(|size| (0..=i64::from(MOST_CELLS)).contains(size))
+    (1..=4).contains(&sizes.len())
+        && sizes
+            .iter()
+            .all(|size| (0..=i64::from(MOST_CELLS)).contains(size))
 }
 
 fn numbers(alloc: Global, sizes: &[i64]) -> SmallVec<u32, 4>

@@ -1,5 +1,5 @@
-use Rattle.std.proofs.Common.{◌∙◌, ap, sym, subst, pos, ◌+ℤ◌, ◌-ℤ◌, ◌*ℤ◌, ◌^◌, ℤ, Ok, IfOk, int_div}
-use Rattle.sk_base.specs.Arithmetic.{InRange, divided, places_of, op_of, is_shift, width_of}
+use Rattle.std.proofs.Common.{◌∙◌, ap, sym, subst, ℤ, Ok, IfOk, int_div}
+use Rattle.sk_base.specs.Arithmetic.{InRange, op_of, is_shift}
 use Rattle.sk_base.specs.ArithmeticLaws.{divided-in_range, read-in_range}
 use Rattle.sk_base.proofs.arithmetic.binary.Goals as goal
 use Rattle.sk_base.proofs.Wrapping.{stored-in_range}

@@ -1,5 +1,4 @@
-use Rattle.std.proofs.Common.{w64, ◌∙◌, ap, sym}
-use Rattle.std.proofs.lemmas.Int.{to_z-of_z}
+use Rattle.std.proofs.Common.{◌∙◌, ap, sym}
 use Rattle.sk_base.specs.Arithmetic.{wrapped}
 use Rattle.sk_base.specs.declared.number.Ty.TheVariants.{Int}
 use Rattle.sk_base.proofs.arithmetic.convert.Goals as goal

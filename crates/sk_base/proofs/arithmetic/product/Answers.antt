@@ -1,7 +1,6 @@
-use Rattle.std.proofs.Common.{◌∙◌, ap, pos, ◌+ℤ◌, ◌-ℤ◌, ◌*ℤ◌, ◌^◌}
-use Rattle.sk_base.specs.Arithmetic.{wrapped, places_of}
+use Rattle.std.proofs.Common.{◌∙◌, ◌*ℤ◌}
 use Rattle.sk_base.proofs.arithmetic.product.Goals as goal
-use Rattle.sk_base.proofs.Wrapping.{stored, wrapped-Long, low_half, wrapped-wrapping_add, wrapped-wrapping_sub, wrapped-wrapping_mul, wrapped-int_shl}
+use Rattle.sk_base.proofs.Wrapping.{stored, wrapped-wrapping_mul}
 
 pub returns : goal.returns
 returns c =

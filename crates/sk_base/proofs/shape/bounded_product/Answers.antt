@@ -10,7 +10,7 @@ loop-size-preserved c =
     let bound = 2 ^ 24 + 1 in
     let within : i < length sizes = omega arith in
     let exact : min (c.loop-size.product * c.from.result) (c.from-in-loop-size.result + 1) ≡ min (min (cells_of (take i sizes)) bound * get_or sizes i 0) bound =
-      ap (λ n. min (n * c.from.result) (c.from-in-loop-size.result + 1)) c.loop-size.invariant
-      ∙ ap (λ n. min (min (cells_of (take i sizes)) bound * n) (c.from-in-loop-size.result + 1)) c.from.ensures
-      ∙ ap (λ n. min (min (cells_of (take i sizes)) bound * get_or sizes i 0) (n + 1)) c.from-in-loop-size.ensures in
+    ap (λ n. min (n * c.from.result) (c.from-in-loop-size.result + 1)) c.loop-size.invariant
+    ∙ ap (λ n. min (min (cells_of (take i sizes)) bound * n) (c.from-in-loop-size.result + 1)) c.from.ensures
+    ∙ ap (λ n. min (min (cells_of (take i sizes)) bound * get_or sizes i 0) (n + 1)) c.from-in-loop-size.ensures in
     c.min-product.ensures ∙ exact ∙ min-step (cells_of (take i sizes)) (get_or sizes i 0) bound ∙ ap (λ n. min n bound) (sym (cells_of-more sizes i within))

@@ -32,13 +32,13 @@ returns-then-at-lt0 c =
     let at_is = sym (to_z-of_z w64 (get_or place i (pos 0)) fits) in
     let within : i < length place = omega arith in
     let none : None ≡ flat_of sizes place =
-      elim c.then-at-lt0.branch [
-        then-at-lt0-via-then-at-lt0 w ↦ walked-low c.loop-axis.index i sizes place _ c.loop-axis.invariant c.loop-axis-test.true within at_is w.if-at-lt0.true
+    elim c.then-at-lt0.branch [
+      | then-at-lt0-via-then-at-lt0 w ↦ walked-low c.loop-axis.index i sizes place _ c.loop-axis.invariant c.loop-axis-test.true within at_is w.if-at-lt0.true
       | then-at-lt0-via-else-at-lt0+then-at-from w ↦
-        let fits_size : SFits w64 w.from.result = record { sfits = w.from.type_inv } in
-        walked-high c.loop-axis.index i sizes place _ _ c.loop-axis.invariant c.loop-axis-test.true within at_is
-        (to_z-of_z w64 w.from.result fits_size ∙ w.from.ensures) w.if-at-from.true
-      ] in
+          let fits_size : SFits w64 w.from.result = record { sfits = w.from.type_inv } in
+          walked-high c.loop-axis.index i sizes place _ _ c.loop-axis.invariant c.loop-axis-test.true within at_is
+          (to_z-of_z w64 w.from.result fits_size ∙ w.from.ensures) w.if-at-from.true
+    ] in
     none ∙ ap (λ (s : List ℕ). flat_of s place) c.sizes-sizes.ensures.value
 
 pub returns : goal.returns

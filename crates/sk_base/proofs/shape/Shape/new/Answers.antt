@@ -1,6 +1,6 @@
-use Rattle.std.proofs.Common.{◌≡◌, ◌∙◌, ap, sym, subst, ◌≤◌, ◌^◌, map, unsigned_abs, arith, Some}
+use Rattle.std.proofs.Common.{◌∙◌, ap, sym, subst, ◌≤◌, ◌^◌, map, unsigned_abs, arith, Some}
 use Rattle.std.proofs.lemmas.Bool.{both_ways}
-use Rattle.sk_base.specs.Shape.{cells_of, shape_of, IsShape, AreSizes}
+use Rattle.sk_base.specs.Shape.{cells_of, IsShape}
 use Rattle.sk_base.proofs.shape.Shape.new.Goals as goal
 use Rattle.sk_base.proofs.Shapes.{no_shape-sizes, no_shape-product, shape_found, IsShape-unsigned_abs}
 

@@ -1,2 +1,4 @@
 pub mod Arithmetic
+pub mod ArithmeticLaws
 pub mod Shape
+pub mod ShapeLaws

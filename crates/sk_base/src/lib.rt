@@ -6,12 +6,14 @@
 //! - `choice`: the names of edge modes and of skeleton variants.
 #![tactic(auto)]
 
+mod arithmetic;
 mod choice;
 mod number;
 mod range;
 mod shape;
 
+pub use arithmetic::{binary, convert, wrap};
 pub use choice::{EdgeMode, Variant};
 pub use number::{Cell, Op, Trap, Ty};
 pub use range::Range;
-pub use shape::Shape;
+pub use shape::{MOST_CELLS, Shape, flat};

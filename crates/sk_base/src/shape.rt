@@ -67,13 +67,32 @@ impl Shape {
         let sizes = SmallVec::from_slice(*self.sizes.allocator(), self.sizes.as_slice()).unwrap();
         Shape { sizes }
     }
+}
 
-    /// Whether the two shapes have the same sizes in the same order.
-    pub fn is_same(&self, other: &Shape) -> bool
-        ensures { IsTrue result ↔ (self.now ≡ other.now) }
+/// Shapes are equal where they have the same sizes in the same order.
+impl PartialEq for Shape {
+    ghost use Rattle.std.specs.Prelude.{◌≡◌, ◌==◌, ◌↔◌, IsTrue};
+    ghost use Rattle.std.specs.Cmp.Lexicographic.{pointwise};
+    ghost use Rattle.std.proofs.Common.{rules};
+    ghost use Rattle.std.specs.Cmp.Rules.{comparing};
+
+    ghost eq = { pointwise ◌==◌ };
+
+    ghost laws = { Prim.search (comparing, rules) };
+
+    fn eq(&self, other: &Shape) -> bool
+        ensures value { result ≡ pointwise ◌==◌ self.now other.now }
+        ensures same { IsTrue result ↔ (self.now ≡ other.now) }
     {
         self.sizes() == other.sizes()
     }
+}
+
+impl Eq for Shape {
+    ghost use Rattle.std.proofs.Common.{rules};
+    ghost use Rattle.std.specs.Cmp.Rules.{comparing};
+
+    ghost laws = { Prim.search (comparing, rules) };
 }
 
 fn are_sizes(sizes: &[i64]) -> bool

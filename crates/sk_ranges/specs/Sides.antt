@@ -1,0 +1,20 @@
+-- The two sides of a range whose state is being changed.
+use Rattle.std.specs.Prelude.{◌≡◌, ◌≢◌, ℕ, ◌<◌, ◌≤◌, List, Option, Some, None}
+use Rattle.sk_ranges.specs.declared.state.State.{State}
+use Rattle.sk_ranges.specs.declared.pieces.Piece.{Piece}
+use Rattle.sk_ranges.specs.Pieces.{AreTidy, end_of, last_of, state_of}
+
+-- left has the pieces before the range at lo, up to where the run of this state that ends at lo begins
+pub record IsLeft (pieces : List Piece) (lo : ℕ) (state : State) (left : List Piece) : Type 0 where
+  pub tidy : AreTidy 0 None left
+  pub until : end_of 0 left ≤ lo
+  pub other : last_of None left ≢ Some state
+  pub same : (i : ℕ) → i < end_of 0 left → state_of left i ≡ state_of pieces i
+  pub joined : (i : ℕ) → end_of 0 left ≤ i → i < lo → state_of pieces i ≡ state
+
+-- right has the pieces after the range that ends at hi, behind a piece with this state that ends at hi or later
+pub record IsRight (pieces : List Piece) (hi : ℕ) (state : State) (right : List Piece) : Type 0 where
+  pub tidy : (start : ℕ) (before : Option State) → start < hi → before ≢ Some state → AreTidy start before right
+  pub ends : (start : ℕ) → end_of start right ≡ end_of 0 pieces
+  pub within : (i : ℕ) → i < hi → state_of right i ≡ state
+  pub beyond : (i : ℕ) → hi ≤ i → state_of right i ≡ state_of pieces i

@@ -1,5 +1,5 @@
 -- What the piece at a place tells of the indices in it.
-use Rattle.std.proofs.Common.{◌≡◌, ◌≢◌, ℕ, zero, suc, ◌+◌, ◌<◌, ◌≤◌, List, [], ◌∷◌, ◌++◌, Option, Some, None, ⊎_elim, get_or, length, take, drop, min, sym, subst, ◌∙◌, add-one, arith}
+use Rattle.std.proofs.Common.{◌≡◌, ◌≢◌, ℕ, zero, suc, ◌+◌, ◌<◌, ◌≤◌, List, [], ◌∷◌, Option, Some, None, ⊎_elim, get_or, length, take, drop, min, sym, subst, ◌∙◌, add-one, arith}
 use Rattle.std.proofs.lemmas.Bool.{cases_lt}
 use Rattle.sk_ranges.specs.declared.state.State.{State}
 use Rattle.sk_ranges.specs.declared.state.State.TheVariants.{Stale}
@@ -36,10 +36,10 @@ run_at ps k lo to hi d t h a b o e m =
       inside = omega arith;
       each = λ i f g. state_of-at ps k i d t h (omega arith) (omega arith);
       longest = λ short.
-        let stops : to ≡ (get_or ps k d).end = omega arith in
-        let more : k + 1 < length ps = place_inside ps (k + 1) to (omega arith) (omega arith) (omega arith) in
-        let there : state_of ps to ≡ (get_or ps (k + 1) d).state = state_of-at ps (k + 1) to d t more (omega arith) (omega (arith, next_ends 0 None ps k d d t more)) in
-        λ same. next_differs 0 None ps k d t more (sym there ∙ same)
+          let stops : to ≡ (get_or ps k d).end = omega arith in
+          let more : k + 1 < length ps = place_inside ps (k + 1) to (omega arith) (omega arith) (omega arith) in
+          let there : state_of ps to ≡ (get_or ps (k + 1) d).state = state_of-at ps (k + 1) to d t more (omega arith) (omega (arith, next_ends 0 None ps k d d t more)) in
+          λ same. next_differs 0 None ps k d t more (sym there ∙ same);
     }
 
 -- none was stale up to an index, and none is up to its piece's end

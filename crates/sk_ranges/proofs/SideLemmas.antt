@@ -7,7 +7,7 @@ use Rattle.sk_ranges.specs.declared.pieces.Piece.{Piece}
 use Rattle.sk_ranges.specs.Pieces.{AreTidy, end_of, last_of, state_of}
 use Rattle.sk_ranges.specs.Sides.{IsLeft, IsRight}
 use Rattle.sk_ranges.specs.States.{SetsIn}
-use Rattle.sk_ranges.proofs.PieceLemmas.{end_of-above, end_of-append, end_of-take, ends_rise, AreTidy-append, AreTidy-left, AreTidy-right, state_of-here, state_of-later, state_of-left, state_of-right, state_of-past}
+use Rattle.sk_ranges.proofs.PieceLemmas.{end_of-append, end_of-take, ends_rise, AreTidy-append, AreTidy-left, AreTidy-right, state_of-here, state_of-later, state_of-left, state_of-right, state_of-past}
 
 -- the pieces are those below a place, the one there, and those above it
 pub split_at : (ps : List Piece) (k : ℕ) (d : Piece) → k < length ps → take k ps ++ get_or ps k d ∷ drop (k + 1) ps ≡ ps
@@ -27,7 +27,7 @@ left_joined xs p ys lo target t a b e = record {
   until = omega arith;
   other = subst (λ (s : State). last_of None xs ≢ Some s) e (AreTidy-right 0 None xs (p ∷ ys) t).1;
   same = λ i h. sym (state_of-left 0 xs (p ∷ ys) i (omega arith) h);
-  joined = λ i f h. state_of-middle xs p ys i t f (omega arith) ∙ e
+  joined = λ i f h. state_of-middle xs p ys i t f (omega arith) ∙ e;
 }
 
 left_kept : (xs : List Piece) (p : Piece) (ys : List Piece) (lo : ℕ) (target : State) → AreTidy 0 None (xs ++ p ∷ ys) → end_of 0 xs < lo → lo ≤ p.end → p.state ≢ target → IsLeft (xs ++ p ∷ ys) lo target (xs ++ record { end = lo; state = p.state } ∷ [])
@@ -41,10 +41,10 @@ left_kept xs p ys lo target t a b n =
       until = omega (arith, ends);
       other = λ e. n (cc (e, last_of-push None xs q));
       same = λ i h. ⊎_elim
-        (λ below. state_of-left 0 xs (q ∷ []) i (omega arith) below ∙ sym (state_of-left 0 xs (p ∷ ys) i (omega arith) below))
-        (λ above. state_of-middle xs q [] i tidy above (omega (arith, ends)) ∙ sym (state_of-middle xs p ys i t above (omega (arith, ends))))
-        (cases_lt i (end_of 0 xs));
-      joined = λ i f h. absurd (omega (arith, ends))
+          (λ below. state_of-left 0 xs (q ∷ []) i (omega arith) below ∙ sym (state_of-left 0 xs (p ∷ ys) i (omega arith) below))
+          (λ above. state_of-middle xs q [] i tidy above (omega (arith, ends)) ∙ sym (state_of-middle xs p ys i t above (omega (arith, ends))))
+          (cases_lt i (end_of 0 xs));
+      joined = λ i f h. absurd (omega (arith, ends));
     }
 
 right_joined : (xs : List Piece) (p : Piece) (ys : List Piece) (hi : ℕ) (target : State) → AreTidy 0 None (xs ++ p ∷ ys) → end_of 0 xs ≤ hi → hi < p.end → p.state ≡ target → IsRight (xs ++ p ∷ ys) hi target (p ∷ ys)
@@ -52,7 +52,7 @@ right_joined xs p ys hi target t a b e = record {
   tidy = λ s before h n. (omega arith, subst (λ (w : State). before ≢ Some w) (sym e) n, (AreTidy-right 0 None xs (p ∷ ys) t).2);
   ends = λ s. sym (end_of-append 0 xs (p ∷ ys));
   within = λ i h. state_of-here p ys i (omega arith) ∙ e;
-  beyond = λ i h. sym (state_of-right 0 None xs (p ∷ ys) i (AreTidy-left 0 None xs (p ∷ ys) t) (omega arith))
+  beyond = λ i h. sym (state_of-right 0 None xs (p ∷ ys) i (AreTidy-left 0 None xs (p ∷ ys) t) (omega arith));
 }
 
 right_kept : (xs : List Piece) (p : Piece) (ys : List Piece) (hi : ℕ) (target : State) → AreTidy 0 None (xs ++ p ∷ ys) → end_of 0 xs ≤ hi → hi < p.end → p.state ≢ target → IsRight (xs ++ p ∷ ys) hi target (record { end = hi; state = target } ∷ p ∷ ys)
@@ -62,7 +62,7 @@ right_kept xs p ys hi target t a b n =
       tidy = λ s before h o. (h, o, (b, (λ e. n (cc (e))), (AreTidy-right 0 None xs (p ∷ ys) t).2));
       ends = λ s. sym (end_of-append 0 xs (p ∷ ys));
       within = λ i h. state_of-here q (p ∷ ys) i h;
-      beyond = λ i h. state_of-later q (p ∷ ys) i h ∙ sym (state_of-right 0 None xs (p ∷ ys) i (AreTidy-left 0 None xs (p ∷ ys) t) (omega arith))
+      beyond = λ i h. state_of-later q (p ∷ ys) i h ∙ sym (state_of-right 0 None xs (p ∷ ys) i (AreTidy-left 0 None xs (p ∷ ys) t) (omega arith));
     }
 
 right_end : (ps : List Piece) (hi : ℕ) (target : State) → AreTidy 0 None ps → end_of 0 ps ≡ hi → IsRight ps hi target (record { end = hi; state = target } ∷ [])
@@ -72,18 +72,18 @@ right_end ps hi target t e =
       tidy = λ s before h o. (h, o, tt);
       ends = λ s. sym e;
       within = λ i h. state_of-here q [] i h;
-      beyond = λ i h. state_of-later q [] i h ∙ sym (state_of-past 0 None ps i t (omega arith))
+      beyond = λ i h. state_of-later q [] i h ∙ sym (state_of-past 0 None ps i t (omega arith));
     }
 
 -- the pieces from the sides together
 pub sides_set : (ps xs ys : List Piece) (lo hi : ℕ) (target : State) → lo < hi → IsLeft ps lo target xs → IsRight ps hi target ys → SetsIn (state_of ps) (state_of (xs ++ ys)) lo hi target
 sides_set ps xs ys lo hi target o l r = record {
   before = λ i h. ⊎_elim
-    (λ below. state_of-left 0 xs ys i (omega arith) below ∙ l.same i below)
-    (λ above. state_of-right 0 None xs ys i l.tidy above ∙ r.within i (omega arith) ∙ sym (l.joined i above h))
-    (cases_lt i (end_of 0 xs));
+      (λ below. state_of-left 0 xs ys i (omega arith) below ∙ l.same i below)
+      (λ above. state_of-right 0 None xs ys i l.tidy above ∙ r.within i (omega arith) ∙ sym (l.joined i above h))
+      (cases_lt i (end_of 0 xs));
   inside = λ i f h. state_of-right 0 None xs ys i l.tidy (omega (arith, l.until)) ∙ r.within i h;
-  after = λ i h. state_of-right 0 None xs ys i l.tidy (omega (arith, l.until)) ∙ r.beyond i h
+  after = λ i h. state_of-right 0 None xs ys i l.tidy (omega (arith, l.until)) ∙ r.beyond i h;
 }
 
 pub sides_tidy : (ps xs ys : List Piece) (lo hi : ℕ) (target : State) → lo < hi → IsLeft ps lo target xs → IsRight ps hi target ys → AreTidy 0 None (xs ++ ys)

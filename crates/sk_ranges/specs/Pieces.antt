@@ -1,5 +1,5 @@
 -- Pieces of equal state: each begins where the one before it ends.
-use Rattle.std.specs.Prelude.{◌≡◌, ◌≢◌, ℕ, ◌<◌, List, [], ◌∷◌, map, Option, Some, None, ⊤, nat_lt, if◌then◌else◌}
+use Rattle.std.specs.Prelude.{◌≢◌, ℕ, ◌<◌, List, [], ◌∷◌, map, Option, Some, ⊤, nat_lt, if◌then◌else◌}
 use Rattle.std.specs.List.{range_with_len}
 use Rattle.sk_ranges.specs.declared.state.State.{State}
 use Rattle.sk_ranges.specs.declared.state.State.TheVariants.{Stale}
@@ -19,7 +19,7 @@ state_of (piece ∷ pieces) i = if nat_lt i piece.end then piece.state else stat
 abbrev pub AreTidy : ℕ → Option State → List Piece → Type 0
 AreTidy start before [] = ⊤
 AreTidy start before (piece ∷ pieces) =
-  (start < piece.end) × (before ≢ Some piece.state) × AreTidy piece.end (Some piece.state) pieces
+    (start < piece.end) × (before ≢ Some piece.state) × AreTidy piece.end (Some piece.state) pieces
 
 -- the state of the last piece, or what was before the first
 abbrev pub last_of : Option State → List Piece → Option State

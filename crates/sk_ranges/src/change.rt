@@ -45,12 +45,10 @@ fn left_of(pieces: &[Piece], lo: u32, state: State) -> Side
     }
     Side {
         place: at,
-        piece: Some(
-            Piece {
-                end: lo,
-                state: piece.state,
-            },
-        ),
+        piece: Some(Piece {
+            end: lo,
+            state: piece.state,
+        }),
     }
 }
 
@@ -70,12 +68,7 @@ fn right_of(pieces: &[Piece], hi: u32, state: State) -> Side
     }
     Side {
         place: at,
-        piece: Some(
-            Piece {
-                end: hi,
-                state,
-            },
-        ),
+        piece: Some(Piece { end: hi, state }),
     }
 }
 

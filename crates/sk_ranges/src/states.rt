@@ -44,18 +44,12 @@ impl States {
     {
         let mut pieces = Vec::with_capacity(alloc, 1)?;
         if len > 0 {
-            pieces.push_reserved(
-                Piece {
-                    end: len,
-                    state: State::Stale,
-                },
-            );
+            pieces.push_reserved(Piece {
+                end: len,
+                state: State::Stale,
+            });
         }
-        Ok(
-            States {
-                pieces,
-            },
-        )
+        Ok(States { pieces })
     }
 
     /// How many indices there are.
@@ -126,3 +120,6 @@ impl States {
         pieces::missing(&self.pieces, range)
     }
 }
+
+#[cfg(test)]
+mod tests;

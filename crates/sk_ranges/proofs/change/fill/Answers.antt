@@ -1,5 +1,4 @@
-use Rattle.std.proofs.Common.{◌≡◌, ◌+◌, drop, length, arith, ap, ◌∙◌, sym, option_to_list}
-use Rattle.std.specs.List.{insert}
+use Rattle.std.proofs.Common.{◌≡◌, arith}
 use Rattle.sk_ranges.proofs.VecLemmas.{inserted, take-insert, drop-insert}
 use Rattle.sk_ranges.proofs.change.fill.Goals as goal
 

@@ -1,8 +1,7 @@
-use Rattle.std.proofs.Common.{◌<◌, length, arith, ap}
-use Rattle.std.proofs.lemmas.List.{append-nil, take_all}
+use Rattle.std.proofs.Common.{◌<◌, length, arith}
+use Rattle.std.proofs.lemmas.List.{append-nil}
 use Rattle.sk_ranges.specs.declared.pieces.Piece.{Piece}
 use Rattle.sk_ranges.specs.declared.state.State.TheVariants.{Stale}
-use Rattle.sk_ranges.specs.Pieces.{end_of}
 use Rattle.sk_ranges.proofs.StateLemmas.{states_same, states_differ}
 use Rattle.sk_ranges.proofs.SideLemmas.{left_joined_at, left_kept_at}
 use Rattle.sk_ranges.proofs.change.left_of.Goals as goal

@@ -1,4 +1,3 @@
-use Rattle.std.proofs.Common.{arith}
 use Rattle.sk_ranges.specs.declared.pieces.Piece.{Piece}
 use Rattle.sk_ranges.specs.declared.state.State.TheVariants.{Stale}
 use Rattle.sk_ranges.proofs.StateLemmas.{states_same, states_differ}
@@ -17,6 +16,6 @@ returns-clause-right c =
     let d : Piece = record { end = 0; state = Stale } in
     let at = c.place-at.ensures in
     elim c.else-at-pieces.branch [
-      else-at-pieces-via-then-at-pieces+else-eq w ↦ right_kept_at c.args.pieces.now c.place-at.result c.args.hi c.args.state d c.requires.tidy w.if-at-pieces.true at.before (at.after d w.if-at-pieces.true) (states_differ _ _ _ w.eq.ensures w.if-eq.false)
-    | else-at-pieces-via-else-at-pieces w ↦ right_end_at c.args.pieces.now c.place-at.result c.args.hi c.args.state c.requires.tidy w.if-at-pieces.false at.before c.requires.inside
+      | else-at-pieces-via-then-at-pieces+else-eq w ↦ right_kept_at c.args.pieces.now c.place-at.result c.args.hi c.args.state d c.requires.tidy w.if-at-pieces.true at.before (at.after d w.if-at-pieces.true) (states_differ _ _ _ w.eq.ensures w.if-eq.false)
+      | else-at-pieces-via-else-at-pieces w ↦ right_end_at c.args.pieces.now c.place-at.result c.args.hi c.args.state c.requires.tidy w.if-at-pieces.false at.before c.requires.inside
     ]

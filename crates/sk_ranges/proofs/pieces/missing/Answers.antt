@@ -30,5 +30,5 @@ pieces-preserved c =
       within = omega arith;
       before = omega (arith, ends);
       after = λ e more. next_ends 0 None ps c.pieces.at d e c.requires.tidy more;
-      earlier = earlier_more ps c.pieces.at c.args.range.lo c.pieces.lo d c.requires.tidy there all.before (states_differ _ _ _ c.eq.ensures c.if-eq.false) all.earlier
+      earlier = earlier_more ps c.pieces.at c.args.range.lo c.pieces.lo d c.requires.tidy there all.before (states_differ _ _ _ c.eq.ensures c.if-eq.false) all.earlier;
     }

@@ -10,7 +10,7 @@ invariant-pieces l = record {
   within : l.at ≤ length l.pieces;
   before : end_of 0 (take l.at l.pieces) ≤ l.lo;
   after : (d : Piece) → l.at < length l.pieces → l.lo < (slice_index_or l.pieces l.at d).end;
-  earlier : (i : ℕ) → l.range.lo ≤ i → i < l.lo → state_of l.pieces i ≢ Stale
+  earlier : (i : ℕ) → l.range.lo ≤ i → i < l.lo → state_of l.pieces i ≢ Stale;
 }
 
 abbrev pub decreases-pieces : goal.decreases-pieces

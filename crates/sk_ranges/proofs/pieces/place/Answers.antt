@@ -1,4 +1,4 @@
-use Rattle.std.proofs.Common.{◌≡◌, ◌<◌, ◌≤◌, ℕ, List, length, None, true, false, leb, leb-true, leb-false, get_or, arith, rules}
+use Rattle.std.proofs.Common.{◌≡◌, None, true, false, leb, leb-true, leb-false, arith, rules}
 use Rattle.std.specs.List.Sorted.{IsPartitionPoint}
 use Rattle.std.proofs.lemmas.List.Sorted.{IsPartitionPoint-from_clause, IsPartitionedBy-leb}
 use Rattle.sk_ranges.specs.declared.state.State.TheVariants.{Stale}

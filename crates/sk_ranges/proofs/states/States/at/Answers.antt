@@ -1,4 +1,4 @@
-use Rattle.std.proofs.Common.{◌≡◌, ◌∙◌, ℕ, ap, subst, sym, arith}
+use Rattle.std.proofs.Common.{◌∙◌, ℕ, ap, arith}
 use Rattle.sk_ranges.specs.declared.state.State.{State}
 use Rattle.sk_ranges.proofs.ViewLemmas.{seen_at, seen_length}
 use Rattle.sk_ranges.proofs.states.States.at.Goals as goal

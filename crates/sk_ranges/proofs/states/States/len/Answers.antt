@@ -1,4 +1,4 @@
-use Rattle.std.proofs.Common.{◌≡◌, ◌∙◌, ap, sym, arith}
+use Rattle.std.proofs.Common.{◌∙◌, ap}
 use Rattle.sk_ranges.specs.Pieces.{end_of}
 use Rattle.sk_ranges.proofs.ViewLemmas.{seen_length}
 use Rattle.sk_ranges.proofs.states.States.len.Goals as goal

@@ -1,8 +1,17 @@
 -- The two sides of a range whose state is being changed.
-use Rattle.std.specs.Prelude.{◌≡◌, ◌≢◌, ℕ, ◌<◌, ◌≤◌, List, Option, Some, None}
+use Rattle.std.specs.Prelude.{◌≡◌, ◌≢◌, ℕ, ◌<◌, ◌≤◌, ◌++◌, List, take, drop, Option, Some, None, option_to_list}
 use Rattle.sk_ranges.specs.declared.state.State.{State}
 use Rattle.sk_ranges.specs.declared.pieces.Piece.{Piece}
+use Rattle.sk_ranges.specs.declared.change.Side.{Side}
 use Rattle.sk_ranges.specs.Pieces.{AreTidy, end_of, last_of, state_of}
+
+-- the pieces before the left side's place, and its own
+abbrev pub pieces_before : List Piece → Side → List Piece
+pieces_before pieces side = take side.place pieces ++ option_to_list side.piece
+
+-- the right side's own piece, and those from its place on
+abbrev pub pieces_after : List Piece → Side → List Piece
+pieces_after pieces side = option_to_list side.piece ++ drop side.place pieces
 
 -- left has the pieces before the range at lo, up to where the run of this state that ends at lo begins
 pub record IsLeft (pieces : List Piece) (lo : ℕ) (state : State) (left : List Piece) : Type 0 where

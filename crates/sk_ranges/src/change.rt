@@ -1,6 +1,6 @@
-ghost use Rattle.std.specs.Prelude.{◌≡◌, ℕ, ◌+◌, ◌<◌, ◌≤◌, ◌++◌, List, length, take, drop, None, slice_index_or, option_to_list, vec_len, vec_capacity};
+ghost use Rattle.std.specs.Prelude.{◌≡◌, ℕ, ◌+◌, ◌<◌, ◌≤◌, ◌∷◌, ◌++◌, List, length, take, drop, None, slice_index_or, option_to_list, vec_len, vec_capacity};
 ghost use Rattle.sk_ranges.specs.Pieces.{AreTidy, end_of, state_of};
-ghost use Rattle.sk_ranges.specs.Sides.{IsLeft, IsRight};
+ghost use Rattle.sk_ranges.specs.Sides.{IsLeft, IsRight, pieces_before, pieces_after};
 ghost use Rattle.sk_ranges.specs.States.{SetsIn};
 ghost use Rattle.sk_ranges.specs.declared.pieces.Piece.{Piece};
 
@@ -8,7 +8,8 @@ use crate::pieces::{Piece, place};
 use crate::state::State;
 use sk_base::Range;
 
-/// What stays on one side of a range: the pieces before `place`, or those from `place` on, and a piece beside the range.
+/// What is on one side when a range gets a state: the pieces before `place`, or those from `place` on, and a piece that
+/// comes between them and the other side.
 #[derive(Clone, Copy)]
 struct Side {
     place: usize,
@@ -22,12 +23,13 @@ struct Gap {
     to: usize,
 }
 
+/// What stays before a range that begins at `lo` and gets the state.
 fn left_of(pieces: &[Piece], lo: u32, state: State) -> Side
     requires tidy { AreTidy 0 None pieces.now }
     requires inside { lo ≤ end_of 0 pieces.now }
     ensures within { result.place ≤ length pieces.now }
     ensures below { end_of 0 (take result.place pieces.now) ≤ lo }
-    ensures left { IsLeft pieces.now lo state (take result.place pieces.now ++ option_to_list result.piece) }
+    ensures left { IsLeft pieces.now lo state (pieces_before pieces.now result) }
 {
     if lo == 0 {
         return Side {
@@ -52,12 +54,13 @@ fn left_of(pieces: &[Piece], lo: u32, state: State) -> Side
     }
 }
 
+/// What stays behind a range that ends at `hi` and gets the state; a piece beside it is the range's own.
 fn right_of(pieces: &[Piece], hi: u32, state: State) -> Side
     requires tidy { AreTidy 0 None pieces.now }
     requires inside { hi ≤ end_of 0 pieces.now }
     ensures within { result.place ≤ length pieces.now }
     ensures above { (d : Piece) → result.place < length pieces.now → hi < (slice_index_or pieces.now result.place d).end }
-    ensures right { IsRight pieces.now hi state (option_to_list result.piece ++ drop result.place pieces.now) }
+    ensures right { IsRight pieces.now hi state (pieces_after pieces.now result) }
 {
     let at = place(pieces, hi);
     if at < pieces.len() && pieces[at].state == state {
@@ -102,12 +105,42 @@ fn fill(pieces: &mut Vec<Piece>, gap: Gap, piece: Option<Piece>) -> Gap
     }
 }
 
-/// Replaces the pieces between two places by the pieces beside them, with one or two moves of the pieces behind.
+/// Puts two pieces at a place, with one move of the pieces behind.
+fn insert_both(pieces: &mut Vec<Piece>, place: usize, first: Piece, second: Piece)
+    requires inside { place ≤ vec_len pieces.old }
+    requires room { vec_len pieces.old + 2 ≤ vec_capacity pieces.old }
+    ensures items { pieces.new.items ≡ take place pieces.old.items ++ first ∷ second ∷ drop place pieces.old.items }
+    ensures len { vec_len pieces.new ≡ vec_len pieces.old + 2 }
+    ensures capacity { vec_capacity pieces.old ≤ vec_capacity pieces.new }
+{
+    pieces.push_reserved(first);
+    pieces.push_reserved(second);
+    pieces[place..].rotate_right(2);
+}
+
+/// Replaces the pieces between two places by the pieces beside them, with at most one move of the pieces behind.
 fn replace(pieces: &mut Vec<Piece>, left: Side, right: Side)
     requires ordered { left.place ≤ right.place }
     requires inside { right.place ≤ vec_len pieces.old }
     requires room { vec_len pieces.old + 2 ≤ vec_capacity pieces.old }
-    ensures items { pieces.new.items ≡ (take left.place pieces.old.items ++ option_to_list left.piece) ++ (option_to_list right.piece ++ drop right.place pieces.old.items) }
+    ensures items { pieces.new.items ≡ pieces_before pieces.old.items left ++ pieces_after pieces.old.items right }
+    ensures len { vec_len pieces.new ≤ vec_len pieces.old + 2 }
+    ensures capacity { vec_capacity pieces.old ≤ vec_capacity pieces.new }
+{
+    match (left.piece, right.piece) {
+        (Some(first), Some(second)) if left.place == right.place => insert_both(
+            pieces, left.place, first, second,
+        ),
+        _ => fill_between(pieces, left, right),
+    }
+}
+
+/// The same, where a piece goes or at most one comes.
+fn fill_between(pieces: &mut Vec<Piece>, left: Side, right: Side)
+    requires ordered { left.place ≤ right.place }
+    requires inside { right.place ≤ vec_len pieces.old }
+    requires room { vec_len pieces.old + 2 ≤ vec_capacity pieces.old }
+    ensures items { pieces.new.items ≡ pieces_before pieces.old.items left ++ pieces_after pieces.old.items right }
     ensures len { vec_len pieces.new ≤ vec_len pieces.old + 2 }
     ensures capacity { vec_capacity pieces.old ≤ vec_capacity pieces.new }
 {

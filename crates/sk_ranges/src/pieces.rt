@@ -83,10 +83,8 @@ pub fn missing(pieces: &[Piece], range: Range) -> Option<Range>
     'pieces: while lo < range.hi {
         let piece = pieces[at];
         if piece.state == State::Stale {
-            return Some(Range {
-                lo,
-                hi: piece.end.min(range.hi),
-            });
+            let hi = piece.end.min(range.hi);
+            return Some(Range { lo, hi });
         }
         lo = piece.end;
         at += 1;

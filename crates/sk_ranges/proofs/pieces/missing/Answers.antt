@@ -15,8 +15,8 @@ returns-then-eq-clause-first c =
     let ps = c.args.pieces.now in
     let all = c.pieces.invariant in
     let there : c.pieces.at < length ps = place_inside ps c.pieces.at c.pieces.lo all.within all.before (omega arith) in
-    let found = run_at ps c.pieces.at c.pieces.lo c.min.result c.args.range.hi d c.requires.tidy there all.before (all.after d there) c.pieces-test.true c.requires.inside c.min.ensures in
-    record { within = all.from; earlier = all.earlier; run = subst (λ (s : State). IsRun (state_of ps) s c.pieces.lo c.min.result c.args.range.hi) (states_same (get_or ps c.pieces.at d).state Stale _ c.eq.ensures c.if-eq.true) found }
+    let found = run_at ps c.pieces.at c.pieces.lo c.min-hi.result c.args.range.hi d c.requires.tidy there all.before (all.after d there) c.pieces-test.true c.requires.inside c.min-hi.ensures in
+    record { within = all.from; earlier = all.earlier; run = subst (λ (s : State). IsRun (state_of ps) s c.pieces.lo c.min-hi.result c.args.range.hi) (states_same (get_or ps c.pieces.at d).state Stale _ c.eq.ensures c.if-eq.true) found }
 
 pub pieces-preserved : goal.pieces-preserved
 pieces-preserved c =

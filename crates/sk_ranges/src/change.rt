@@ -59,7 +59,8 @@ fn right_of(pieces: &[Piece], hi: u32, state: State) -> Side
     requires tidy { AreTidy 0 None pieces.now }
     requires inside { hi ≤ end_of 0 pieces.now }
     ensures within { result.place ≤ length pieces.now }
-    ensures above { (d : Piece) → result.place < length pieces.now → hi < (slice_index_or pieces.now result.place d).end }
+    ensures above { (d : Piece) → result.place < length pieces.now →
+        hi < (slice_index_or pieces.now result.place d).end }
     ensures right { IsRight pieces.now hi state (pieces_after pieces.now result) }
 {
     let at = place(pieces, hi);

@@ -26,7 +26,8 @@ pub fn place(pieces: &[Piece], index: u32) -> usize
     ensures within { result ≤ length pieces.now }
     ensures inside { index < end_of 0 pieces.now → result < length pieces.now }
     ensures before { end_of 0 (take result pieces.now) ≤ index }
-    ensures after { (d : Piece) → result < length pieces.now → index < (slice_index_or pieces.now result d).end }
+    ensures after { (d : Piece) → result < length pieces.now →
+        index < (slice_index_or pieces.now result d).end }
 {
     pieces.partition_point(|piece| piece.end <= index)
 }
@@ -73,11 +74,9 @@ pub fn missing(pieces: &[Piece], range: Range) -> Option<Range>
     requires tidy { AreTidy 0 None pieces.now }
     requires inside { range.hi ≤ end_of 0 pieces.now }
     ensures none { IfNone result (NoneMissing (state_of pieces.now) range.lo range.hi) }
-    ensures first { IfSome result (λ run. IsFirstMissing (state_of pieces.now) range.lo range.hi run.lo run.hi) }
+    ensures first { IfSome result (λ run.
+        IsFirstMissing (state_of pieces.now) range.lo range.hi run.lo run.hi) }
 {
-    if range.lo == range.hi {
-        return None;
-    }
     let mut lo = range.lo;
     let mut at = place(pieces, lo);
     'pieces: while lo < range.hi {

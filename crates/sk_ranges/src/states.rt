@@ -18,7 +18,8 @@ impl From<AllocError> for Memory {
     }
 }
 
-/// The state of each index of a copy, from 0 on, and room for changes that were reserved.
+/// The state of each index of a copy, from 0 on, and room for the changes that were reserved. Contracts see the list of
+/// states by index, and the number of those changes.
 #[derive(Debug, Drop)]
 pub struct States {
     pieces: Vec<Piece>,
@@ -31,7 +32,11 @@ impl Model for States {
 
     ghost Value = { StatesView };
 
-    ghost view = { λ s. record { states = states_of s.pieces.items; reserved = (vec_capacity s.pieces - vec_len s.pieces) / 2 } };
+    // A change adds two pieces at most.
+    ghost view = { λ s. record {
+      states = states_of s.pieces.items;
+      reserved = (vec_capacity s.pieces - vec_len s.pieces) / 2;
+    } };
 
     ghost invariant = { λ s. AreTidy 0 None s.pieces.items };
 }
@@ -66,7 +71,7 @@ impl States {
         self.len() == 0
     }
 
-    /// Makes room for so many calls of `set`.
+    /// Makes room for so many calls of `set`; room that is there already counts. Want of memory leaves all as it was.
     pub fn reserve(&mut self, n: u32) -> Result<(), Memory>
         ensures states { self.new.states ≡ self.old.states }
         ensures ok { OnOk result (n ≤ self.new.reserved) }
@@ -78,8 +83,8 @@ impl States {
         Ok(())
     }
 
-    /// Gives each index of the range the state. It takes no memory; its cost is the logarithm of the number of ranges
-    /// of equal state, the ranges that it meets, and one or two moves of those behind them.
+    /// Gives each index of the range the state, and takes no memory. Runs of equal state are kept: the cost is a binary
+    /// search among them, those that the range meets, and one move of those behind it.
     pub fn set(&mut self, range: Range, state: State)
         requires inside { range.hi ≤ length self.old.states }
         requires reserved { 0 < self.old.reserved }
@@ -87,12 +92,12 @@ impl States {
         ensures states { SetsIn (state_at self.old.states) (state_at self.new.states) range.lo range.hi state }
         ensures reserved { self.old.reserved ≤ self.new.reserved + 1 }
     {
-        if range.lo < range.hi {
+        if !range.is_empty() {
             change::set(&mut self.pieces, range, state);
         }
     }
 
-    /// The state at an index.
+    /// The state at an index, found by binary search.
     pub fn at(&self, index: u32) -> State
         requires { index < length self.now.states }
         ensures { result ≡ state_at self.now.states index }
@@ -100,8 +105,8 @@ impl States {
         pieces::at(&self.pieces, index)
     }
 
-    /// The longest run of one state that begins at the range's beginning and stays in the range. From its end on the
-    /// rest of the range can be asked for, so a walk over a range takes no memory.
+    /// The longest run of one state that begins where the range does and stays in it, found by binary search. A walk over
+    /// the runs of a range asks for the rest of the range again from each run's end, and takes no memory.
     pub fn first_run(&self, range: Range) -> Run
         requires some { range.lo < range.hi }
         requires inside { range.hi ≤ length self.now.states }
@@ -111,11 +116,13 @@ impl States {
         pieces::first_run(&self.pieces, range)
     }
 
-    /// The first stale run of the range, as long as it can be there; none where no index of the range is stale.
+    /// The first stale run of the range, as long as it can be there; none where no index of the range is stale. The cost
+    /// is a binary search, and the runs of the range before the answer.
     pub fn missing(&self, range: Range) -> Option<Range>
         requires { range.hi ≤ length self.now.states }
         ensures none { IfNone result (NoneMissing (state_at self.now.states) range.lo range.hi) }
-        ensures first { IfSome result (λ run. IsFirstMissing (state_at self.now.states) range.lo range.hi run.lo run.hi) }
+        ensures first { IfSome result (λ run.
+            IsFirstMissing (state_at self.now.states) range.lo range.hi run.lo run.hi) }
     {
         pieces::missing(&self.pieces, range)
     }

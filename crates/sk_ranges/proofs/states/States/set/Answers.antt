@@ -8,8 +8,8 @@ use Rattle.sk_ranges.proofs.states.States.set.Goals as goal
 pub set-requires-clause-inside : goal.set-requires-clause-inside
 set-requires-clause-inside c = omega (arith, seen_length c.self.inside.pieces.items c.args.self.now.states (ap (λ v. v.states) c.self.view_is))
 
-pub returns-then-range-clause-states : goal.returns-then-range-clause-states
-returns-then-range-clause-states c =
+pub returns-then-not-is_empty-clause-states : goal.returns-then-not-is_empty-clause-states
+returns-then-not-is_empty-clause-states c =
     let was = c.self.inside.pieces.items in
     let is = c.set.new.pieces.items in
     let seen = seen_at was c.args.self.now.states c.self.invariant (ap (λ v. v.states) c.self.view_is) in

@@ -14,7 +14,7 @@ pub record IsShape (sizes : List ℕ) : Type 0 where
   pub each : All (λ size. size ≤ 2 ^ 24) sizes
   pub product : cells_of sizes ≤ 2 ^ 24
 
--- one to four sizes, none negative and each at most 2^24, of which nothing is known together
+-- one to four sizes from 0 to 2^24, whatever their product
 pub record AreSizes (sizes : List ℤ) : Type 0 where
   pub some : 1 ≤ length sizes
   pub few : length sizes ≤ 4

@@ -1,5 +1,5 @@
 -- Arithmetic of the language: the exact whole-number result, reduced to the type's width.
-use Rattle.std.specs.Prelude.{ℕ, zero, suc, ◌*◌, ◌^◌, Bool, not, ◌&&◌, ℤ, pos, negsuc, ◌+ℤ◌, ◌-ℤ◌, ◌*ℤ◌, Result, Ok, Err, int_lt, int_le, int_div, int_rem, unsigned_abs, FitsSigned, if◌then◌else◌}
+use Rattle.std.specs.Prelude.{ℕ, zero, suc, ◌^◌, Bool, true, false, not, ◌&&◌, ℤ, pos, negsuc, ◌+ℤ◌, ◌-ℤ◌, ◌*ℤ◌, Result, Ok, Err, int_lt, int_le, int_div, int_rem, unsigned_abs, FitsSigned, if◌then◌else◌}
 use Rattle.std.specs.Int.{Width, w32, w64, int_wrap, int_rem_euclid, int_shr, int_bit_and, int_bit_or, int_bit_xor}
 use Rattle.sk_base.specs.declared.number.Ty.{Ty}
 use Rattle.sk_base.specs.declared.number.Ty.TheVariants.{Int, Long}
@@ -38,7 +38,14 @@ places_of ty count = unsigned_abs (int_rem_euclid count (pos (bits_of ty)))
 abbrev pub flag : Bool → ℤ
 flag test = if test then pos 1 else pos 0
 
--- Sums, differences, products and shifts to the left wrap. A quotient is rounded toward zero, and a remainder has
+-- the operators whose right operand is a count of places, of either type
+abbrev pub is_shift : Op → Bool
+is_shift Shl = true
+is_shift Shr = true
+is_shift _ = false
+
+-- Sums, differences, products and shifts to the left wrap. A quotient is rounded toward zero and wraps too: the least
+-- number divided by -1 is itself. A remainder has
 -- the dividend's sign. A shift to the right copies the sign bit. A comparison gives 1 or 0.
 abbrev pub op_of : Op → Ty → ℤ → ℤ → Result ℤ Trap
 op_of Add ty a b = Ok (wrapped ty (a +ℤ b))

@@ -1,3 +1,4 @@
 pub mod Arithmetic
+pub mod ArithmeticLaws
 pub mod Shape
-pub mod Sizes
+pub mod ShapeLaws

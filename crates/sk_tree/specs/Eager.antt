@@ -3,15 +3,14 @@ use Rattle.std.specs.Prelude.{ℕ, zero, suc, ◌-◌, List, [], ◌∷◌, ◌+
 use Rattle.std.specs.Fmt.{signed_decimal}
 use Rattle.sk_base.specs.declared.number.Ty.{Ty}
 use Rattle.sk_base.specs.declared.number.Ty.TheVariants.{Int}
-use Rattle.sk_base.specs.declared.number.Trap.{Trap as TrapKind}
+use Rattle.sk_base.specs.declared.number.Trap.{Trap}
 use Rattle.sk_base.specs.declared.number.Trap.TheVariants.{Shape}
 use Rattle.sk_base.specs.Arithmetic.{wrapped}
-use Rattle.sk_base.specs.Shape.{cells_of}
-use Rattle.sk_base.specs.Sizes.{shape_of}
+use Rattle.sk_base.specs.Shape.{cells_of, shape_of}
 use Rattle.sk_tree.specs.Bindings.{bound_to, rebound}
-use Rattle.sk_tree.specs.Evaluation.{Names, meaning_of, values_of}
-use Rattle.sk_tree.specs.Functions.{Callable, Callables, callables_of, element_of}
-use Rattle.sk_tree.specs.Formula.{Operand, Trapped, map_of}
+use Rattle.sk_tree.specs.Expressions.{Names, meaning_of, values_of}
+use Rattle.sk_tree.specs.Evaluation.{Callable, Callables, callables_of, element_of}
+use Rattle.sk_tree.specs.Formula.{Operand, TrapAt, map_of}
 use Rattle.sk_tree.specs.declared.tree.Expr.{Expr}
 use Rattle.sk_tree.specs.declared.tree.Expr.TheVariants.{Name}
 use Rattle.sk_tree.specs.declared.tree.Function.{Function}
@@ -23,7 +22,7 @@ use Rattle.sk_tree.specs.declared.tree.Program.{Program}
 use Rattle.sk_tree.specs.declared.tree.Skeleton.{Skeleton}
 use Rattle.sk_tree.specs.declared.tree.Skeleton.TheVariants.{Map}
 use Rattle.sk_tree.specs.declared.tree.Statement.{Statement, fold-Statement}
-use Rattle.sk_tree.specs.declared.tree.What.TheOpen.{What-F, Statement-F, Make, Instance, Call, Print, Return}
+use Rattle.sk_tree.specs.declared.tree.What.TheOpen.{What-F, Declare, Assign, Poke, Make, Take, Instance, Set, Call, Print, If, For, Return}
 
 -- a container of main: its elements' type, its sizes and its cells
 pub record Container : Type 0 where
@@ -36,20 +35,20 @@ pub record MapInstance : Type 0 where
   pub function : Callable
   pub elements : ℕ
 
--- where a run stands: the names in scope, the latest first, what was printed, the statements that may still be
--- executed, and the line of the last one
+-- where a run stands: the functions, instances and containers in scope, the latest first, what was printed, how many
+-- statements may still be executed, and the line of the last one
 pub record State : Type 0 where
   pub callables : Callables
   pub instances : List (List ℕ × MapInstance)
   pub containers : List (List ℕ × Container)
   pub printed : List ℕ
-  pub left : ℕ
+  pub statements_left : ℕ
   pub line : ℕ
 
 -- how a run ends
 pub data Ending : Type 0 where
   End : Ending
-  Trap : TrapKind → (line element : ℕ) → Ending
+  Trapped : Trap → (line element : ℕ) → Ending
   Bound : Ending
 
 -- a run that is over, with what it leaves
@@ -57,14 +56,14 @@ pub record Over : Type 0 where
   pub ending : Ending
   pub state : State
 
-abbrev pub trap_in : State → Trapped → Over
-trap_in state trapped = record { ending = Trap trapped.trap state.line trapped.element; state = state }
+abbrev pub trap_in : State → TrapAt → Over
+trap_in state trapped = record { ending = Trapped trapped.trap state.line trapped.element; state = state }
 
 -- a trap outside of a skeleton's elements, which stands at element 0
-abbrev pub plain_trap : TrapKind → State → Over
+abbrev pub plain_trap : Trap → State → Over
 plain_trap trap state = trap_in state (record { trap = trap; element = 0 })
 
-abbrev pub in_state : Result ℤ TrapKind → State → Result (ℤ × State) Over
+abbrev pub in_state : Result ℤ Trap → State → Result (ℤ × State) Over
 in_state (Ok value) state = Ok (value, state)
 in_state (Err trap) state = Err (plain_trap trap state)
 
@@ -75,7 +74,7 @@ main_names state = record {
   field = λ name field. pos 0;
   method = λ name method. pos 0;
   applied = λ name. elim (bound_to name state.containers) [ Some container ↦ container.ty | None ↦ Int ];
-  apply = λ name values now. elim (bound_to name now.containers) [
+  apply = λ name names values now. elim (bound_to name now.containers) [
     | Some container ↦ in_state (element_of container.sizes container.cells values) now
     | None ↦ Ok (pos 0, now)
   ];
@@ -137,7 +136,7 @@ operands_of state (expr ∷ exprs) = elim (bound_to (name_of expr) state.contain
 ]
 
 -- the result container with new cells, unless there is a trap, which changes no container
-abbrev pub with_result : List ℕ → Result (List ℤ) Trapped → Running
+abbrev pub with_result : List ℕ → Result (List ℤ) TrapAt → Running
 with_result name (Ok cells) state =
     Ok (record state { containers = rebound name (λ container. record container { cells = cells }) state.containers })
 with_result name (Err trapped) state = Err (trap_in state trapped)
@@ -183,30 +182,36 @@ installed name Map numbers (function ∷ functions) state = elim (bound_to funct
 ]
 installed name skeleton numbers functions state = Ok state
 
--- What a statement of main does, its parts being replaced by what they do. The statements are so far those of a first
--- program: instances, new containers, calls, output, and the return.
-abbrev pub running_step : What-F Running Running → Running
-running_step (Make dimension ty name arguments) state =
+-- a statement of a line, which is counted before it is executed, and whose line is that of a trap in it
+abbrev pub counted : (line : ℕ) → Running → Running
+counted line statement state = elim state.statements_left [
+  | zero ↦ Err (record { ending = Bound; state = state })
+  | suc fewer ↦ statement (record state { statements_left = fewer; line = line })
+]
+
+-- What a statement of main does at its line, its parts being replaced by what they do. The statements of a first program
+-- are instances, new containers, calls, output, and the return; of the others nothing is said yet.
+abbrev pub running_step : What-F (ℕ → Running) Running → (line : ℕ) → Running
+running_step (Make dimension ty name arguments) line = counted line (λ state.
     and_run (all_evaluated arguments state) (λ done.
-    made ty name (shape_of (take dimension done.0)) (fill_of (drop dimension done.0)) done.1)
-running_step (Instance instance) state = installed instance.name instance.skeleton instance.numbers instance.functions state
-running_step (Call name arguments) state = call_run name arguments state
-running_step (Print items) state = all_run (map item_run items) state
-running_step (Return expr) state =
-    and_run (evaluated expr state) (λ done. Err (record { ending = End; state = done.1 }))
-running_step what state = Ok state
-
--- a statement is counted before it is executed, and its line is that of a trap in it
-abbrev pub counted : (line : ℕ) → Running → (left : ℕ) → Running
-counted line statement zero state = Err (record { ending = Bound; state = state })
-counted line statement (suc fewer) state = statement (record state { left = fewer; line = line })
-
-abbrev pub statement_step : Statement-F Running Running → Running
-statement_step statement state = counted statement.line statement.what state.left state
+    made ty name (shape_of (take dimension done.0)) (fill_of (drop dimension done.0)) done.1))
+running_step (Instance instance) line =
+    counted line (installed instance.name instance.skeleton instance.numbers instance.functions)
+running_step (Call name arguments) line = counted line (call_run name arguments)
+running_step (Print items) line = counted line (all_run (map item_run items))
+running_step (Return expr) line = counted line (λ state.
+    and_run (evaluated expr state) (λ done. Err (record { ending = End; state = done.1 })))
+running_step (Declare ty name expr) line = Ok
+running_step (Assign name expr) line = Ok
+running_step (Poke name places expr) line = Ok
+running_step (Take dimension ty name input) line = Ok
+running_step (Set name setting) line = Ok
+running_step (If test one other) line = Ok
+running_step (For first test step body) line = Ok
 
 -- what a statement of main does
 abbrev pub running_of : Statement → Running
-running_of = fold-Statement Running Running running_step statement_step
+running_of = fold-Statement (ℕ → Running) Running running_step (λ statement. statement.what statement.line)
 
 -- the end of a run, where no statement made one before
 abbrev pub over_of : Result State Over → Over
@@ -218,12 +223,12 @@ body_of (Some function) = function.body
 body_of None = []
 
 -- what a run prints, and how it ends
-pub record Outcome : Type 0 where
+pub record EagerRun : Type 0 where
   pub printed : List ℕ
   pub ending : Ending
 
 -- The run of a program that may execute so many statements: its last function is main, which calls those before it.
-abbrev pub eager_of : Program → (bound : ℕ) → Outcome
+abbrev pub eager_of : Program → (bound : ℕ) → EagerRun
 eager_of program bound =
     let count : ℕ = length program.functions - 1 in
     let start : State = record {
@@ -231,7 +236,7 @@ eager_of program bound =
       instances = [];
       containers = [];
       printed = [];
-      left = bound;
+      statements_left = bound;
       line = 0;
     } in
     let over : Over = over_of (all_run (map running_of (body_of (slice_get program.functions count))) start) in

@@ -1,129 +1,231 @@
--- Types and values of expressions. What a name means where an expression stands, and what a run keeps beside, is open
--- here: functions and main give it each their own.
-use Rattle.std.specs.Prelude.{ℕ, zero, suc, Bool, true, false, not, if◌then◌else◌, List, [], ◌∷◌, ℤ, pos, negsuc, ◌-ℤ◌, neg_ℤ, Result, Ok, Err}
+-- What the user functions of a program compute.
+use Rattle.std.specs.Prelude.{ℕ, zero, suc, ◌-◌, if◌then◌else◌, List, [], ◌∷◌, length, drop, map, reverse, ℤ, pos, Some, None, Result, Ok, Err, slice_index_or, codes}
+use Rattle.std.specs.List.{zip}
 use Rattle.sk_base.specs.declared.number.Ty.{Ty}
-use Rattle.sk_base.specs.declared.number.Ty.TheVariants.{Int, Long}
-use Rattle.sk_base.specs.declared.number.Op.{Op}
-use Rattle.sk_base.specs.declared.number.Op.TheVariants.{Shl, Shr, Lt, Le, Gt, Ge, Eq, Ne}
+use Rattle.sk_base.specs.declared.number.Ty.TheVariants.{Int}
 use Rattle.sk_base.specs.declared.number.Trap.{Trap}
-use Rattle.sk_base.specs.Arithmetic.{wrapped, op_of, flag}
-use Rattle.sk_tree.specs.declared.tree.Un.{Un}
-use Rattle.sk_tree.specs.declared.tree.Un.TheVariants.{Neg, Inv, Not}
-use Rattle.sk_tree.specs.declared.tree.Expr.{Expr, fold-Expr}
-use Rattle.sk_tree.specs.declared.tree.Expr.TheOpen.{Expr-F, Number, Name, Field, Method, Unary, Cast, Binary, Both, Either, Choose, Apply}
+use Rattle.sk_base.specs.declared.number.Trap.TheVariants.{Turns, Index}
+use Rattle.sk_base.specs.Arithmetic.{wrapped}
+use Rattle.sk_base.specs.Shape.{cells_of, flat_of}
+use Rattle.sk_tree.specs.Bindings.{bound_to, rebound}
+use Rattle.sk_tree.specs.Expressions.{Names, meaning_of, then_do, holds}
+use Rattle.sk_tree.specs.Lexemes.{same_bytes}
+use Rattle.sk_tree.specs.declared.tree.ParamKind.{ParamKind}
+use Rattle.sk_tree.specs.declared.tree.ParamKind.TheVariants.{Scalar, Index as IndexKind, Proxy, Region}
+use Rattle.sk_tree.specs.declared.tree.Param.{Param}
+use Rattle.sk_tree.specs.declared.tree.Function.{Function}
+use Rattle.sk_tree.specs.declared.tree.Expr.{Expr}
+use Rattle.sk_tree.specs.declared.tree.Statement.{Statement, fold-Statement}
+use Rattle.sk_tree.specs.declared.tree.What.TheOpen.{What-F, Declare, Assign, If, For, Return}
 
--- long where either side is long
-abbrev pub wider : Ty → Ty → Ty
-wider Int ty = ty
-wider Long ty = Long
+-- What a parameter is given: a number; the place that is computed; a container's sizes and cells; or the elements round
+-- a place, by their distances, with the overlap in each direction.
+pub data Argument : Type 0 where
+  Value : ℤ → Argument
+  Place : List ℕ → Argument
+  Whole : (sizes : List ℕ) → (cells : List ℤ) → Argument
+  Neighbours : (overlaps : List ℕ) → (at : List ℤ → Result ℤ Trap) → Argument
 
--- the type in which an operator computes: a shift in the left operand's, and every other in the wider one
-abbrev pub operation_type : Op → Ty → Ty → Ty
-operation_type Shl left right = left
-operation_type Shr left right = left
-operation_type op left right = wider left right
+-- a parameter or a scalar, with what it stands for
+pub record Binding : Type 0 where
+  pub kind : ParamKind
+  pub argument : Argument
 
--- the type of an operator's value: a comparison gives an int
-abbrev pub result_type : Op → Ty → Ty → Ty
-result_type Lt left right = Int
-result_type Le left right = Int
-result_type Gt left right = Int
-result_type Ge left right = Int
-result_type Eq left right = Int
-result_type Ne left right = Int
-result_type op left right = operation_type op left right
+-- the names in scope in a function, the latest first
+abbrev pub Scope : Type 0
+Scope = List (List ℕ × Binding)
 
-abbrev pub prefix_type : Un → Ty → Ty
-prefix_type Not ty = Int
-prefix_type op ty = ty
+-- a function that may be called: its type, its parameters, and its value for arguments and the turns left
+pub record Callable : Type 0 where
+  pub ret : Ty
+  pub kinds : List ParamKind
+  pub call : List Argument → ℕ → Result (ℤ × ℕ) Trap
 
--- a condition holds where its value is not 0
-abbrev pub holds : ℤ → Bool
-holds (pos zero) = false
-holds (pos (suc n)) = true
-holds (negsuc n) = true
+abbrev pub Callables : Type 0
+Callables = List (List ℕ × Callable)
 
-abbrev pub prefix_of : Un → Ty → ℤ → ℤ
-prefix_of Neg ty a = wrapped ty (neg_ℤ a)
-prefix_of Inv ty a = neg_ℤ a -ℤ pos 1
-prefix_of Not ty a = flag (not (holds a))
+-- a number of a type, in scope
+abbrev pub scalar_binding : Ty → ℤ → Binding
+scalar_binding ty value = record { kind = Scalar ty; argument = Value (wrapped ty value) }
 
-module _ {S F : Type 0} where
-  -- goes on with a value and what is kept beside it, unless the run stops
-  abbrev pub then_do : {A B : Type 0} → Result (A × S) F → (A → S → Result (B × S) F) → Result (B × S) F
-  then_do (Ok done) next = next done.0 done.1
-  then_do (Err stop) next = Err stop
+-- a number that is given to a scalar parameter is wrapped; every other argument is bound as it is
+abbrev pub argument_binding : ParamKind → Argument → Binding
+argument_binding (Scalar ty) (Value value) = scalar_binding ty value
+argument_binding kind argument = record { kind = kind; argument = argument }
 
--- What names mean where an expression stands: S is what a run keeps beside values, and F is how it may stop.
-pub record Names (S F : Type 0) : Type 0 where
-  -- a scalar's type and value
-  pub scalar : List ℕ → Ty × ℤ
-  -- `name.field`
-  pub field : List ℕ → List ℕ → ℤ
-  -- `name.method()`
-  pub method : List ℕ → List ℕ → ℤ
-  -- the type of `name(..)`
-  pub applied : List ℕ → Ty
-  -- the value of `name(..)`: a call, or an element
-  pub apply : List ℕ → List ℤ → S → Result (ℤ × S) F
-  -- a trap of the expression itself
-  pub stop : Trap → S → F
+-- the value with this name, or 0
+abbrev pub named : List (List ℕ) → List ℕ → List ℕ → ℕ
+named [] values name = 0
+named (field ∷ fields) [] name = 0
+named (field ∷ fields) (value ∷ values) name = if same_bytes field name then value else named fields values name
 
--- what an expression means: its type and its value
-pub record Meaning (S F : Type 0) : Type 0 where
-  pub ty : Names S F → Ty
-  pub value : Names S F → S → Result (ℤ × S) F
+abbrev pub place_fields : List ℕ → List (List ℕ)
+place_fields (i ∷ []) = codes "i" ∷ []
+place_fields (i ∷ j ∷ []) = codes "row" ∷ codes "col" ∷ []
+place_fields place = codes "i" ∷ codes "j" ∷ codes "k" ∷ codes "l" ∷ []
 
-module _ {S F : Type 0} where
-  -- the values of several expressions, from left to right
-  abbrev pub values_of : List (Meaning S F) → Names S F → S → Result (List ℤ × S) F
-  values_of [] names s = Ok ([], s)
-  values_of (part ∷ parts) names s =
-      then_do (part.value names s) (λ value s. then_do (values_of parts names s) (λ values s. Ok (value ∷ values, s)))
+abbrev pub size_fields : List ℕ → List (List ℕ)
+size_fields (n ∷ []) = []
+size_fields (rows ∷ cols ∷ []) = codes "rows" ∷ codes "cols" ∷ []
+size_fields sizes = codes "size_i" ∷ codes "size_j" ∷ codes "size_k" ∷ codes "size_l" ∷ []
 
-  -- an operator's value, or its trap
-  abbrev pub raised : Names S F → Result ℤ Trap → S → Result (ℤ × S) F
-  raised names (Ok value) s = Ok (value, s)
-  raised names (Err trap) s = Err (names.stop trap s)
+-- the field of a parameter
+abbrev pub field_of : Argument → List ℕ → ℤ
+field_of (Value value) name = pos 0
+field_of (Place place) name = pos (named (place_fields place) place name)
+field_of (Whole sizes cells) name = pos (named (codes "size" ∷ size_fields sizes) (cells_of sizes ∷ sizes) name)
+field_of (Neighbours overlaps at) name = pos (named (codes "oi" ∷ codes "oj" ∷ []) overlaps name)
 
-  -- What an expression means, its parts being replaced by what they mean. `&&`, `||` and `?:` evaluate only what they
-  -- need; everything else goes from left to right.
-  abbrev pub meaning_step : Expr-F (Meaning S F) → Meaning S F
-  meaning_step (Number ty number) = record { ty = λ names. ty; value = λ names s. Ok (number, s) }
-  meaning_step (Name name) =
-      record { ty = λ names. (names.scalar name).0; value = λ names s. Ok ((names.scalar name).1, s) }
-  meaning_step (Field name field) = record { ty = λ names. Int; value = λ names s. Ok (names.field name field, s) }
-  meaning_step (Method name method) = record { ty = λ names. Int; value = λ names s. Ok (names.method name method, s) }
-  meaning_step (Unary op part) = record {
-    ty = λ names. prefix_type op (part.ty names);
-    value = λ names s. then_do (part.value names s) (λ a s. Ok (prefix_of op (part.ty names) a, s));
-  }
-  meaning_step (Cast ty part) =
-      record { ty = λ names. ty; value = λ names s. then_do (part.value names s) (λ a s. Ok (wrapped ty a, s)) }
-  meaning_step (Binary op left right) = record {
-    ty = λ names. result_type op (left.ty names) (right.ty names);
-    value = λ names s. then_do (left.value names s) (λ a s. then_do (right.value names s) (λ b s.
-        raised names (op_of op (operation_type op (left.ty names) (right.ty names)) a b) s));
-  }
-  meaning_step (Both left right) = record {
-    ty = λ names. Int;
-    value = λ names s. then_do (left.value names s) (λ a s.
-        if holds a then then_do (right.value names s) (λ b s. Ok (flag (holds b), s)) else Ok (pos 0, s));
-  }
-  meaning_step (Either left right) = record {
-    ty = λ names. Int;
-    value = λ names s. then_do (left.value names s) (λ a s.
-        if holds a then Ok (pos 1, s) else then_do (right.value names s) (λ b s. Ok (flag (holds b), s)));
-  }
-  meaning_step (Choose test one other) = record {
-    ty = λ names. wider (one.ty names) (other.ty names);
-    value = λ names s. then_do (test.value names s) (λ a s. if holds a then one.value names s else other.value names s);
-  }
-  meaning_step (Apply name arguments) = record {
-    ty = λ names. names.applied name;
-    value = λ names s. then_do (values_of arguments names s) (λ values s. names.apply name values s);
-  }
+-- the element of a container at a place
+abbrev pub element_of : (sizes : List ℕ) → (cells : List ℤ) → (place : List ℤ) → Result ℤ Trap
+element_of sizes cells place =
+    elim (flat_of sizes place) [ Some index ↦ Ok (slice_index_or cells index (pos 0)) | None ↦ Err Index ]
 
--- what an expression means
-abbrev pub meaning_of : {S F : Type 0} → Expr → Meaning S F
-meaning_of {S} {F} = fold-Expr (Meaning S F) meaning_step
+-- an element of a parameter
+abbrev pub element_at : Argument → List ℤ → Result ℤ Trap
+element_at (Value value) place = Err Index
+element_at (Place i) place = Err Index
+element_at (Whole sizes cells) place = element_of sizes cells place
+element_at (Neighbours overlaps at) place = at place
+
+abbrev pub kind_type : ParamKind → Ty
+kind_type (Scalar ty) = ty
+kind_type (IndexKind dimension) = Int
+kind_type (Proxy dimension ty) = ty
+kind_type (Region dimension ty) = ty
+
+abbrev pub number_in : Argument → ℤ
+number_in (Value value) = value
+number_in argument = pos 0
+
+-- a value, with what is kept beside it
+abbrev pub keeping : {A S F : Type 0} → Result A F → S → Result (A × S) F
+keeping (Ok value) s = Ok (value, s)
+keeping (Err stop) s = Err stop
+
+-- what names mean in a function: its scalars and parameters, and the functions before it
+abbrev pub names_in : Callables → Scope → Names ℕ Trap
+names_in callables scope = record {
+  scalar = λ name. elim (bound_to name scope) [ Some binding ↦ (kind_type binding.kind, number_in binding.argument) | None ↦ (Int, pos 0) ];
+  field = λ name field. elim (bound_to name scope) [ Some binding ↦ field_of binding.argument field | None ↦ pos 0 ];
+  method = λ name method. pos 0;
+  applied = λ name. elim (bound_to name scope) [
+    | Some binding ↦ kind_type binding.kind
+    | None ↦ elim (bound_to name callables) [ Some callable ↦ callable.ret | None ↦ Int ]
+  ];
+  apply = λ name names values turns. elim (bound_to name scope) [
+    | Some binding ↦ keeping (element_at binding.argument values) turns
+    | None ↦ elim (bound_to name callables) [ Some callable ↦ callable.call (map Value values) turns | None ↦ Ok (pos 0, turns) ]
+  ];
+  stop = λ trap turns. trap;
+}
+
+-- how far a block has come: it goes on with a scope, or the function returns
+pub data Flow : Type 0 where
+  Going : Scope → Flow
+  Returned : ℤ → Flow
+
+-- what a statement of a function does, with the turns that are left
+abbrev pub Doing : Type 0
+Doing = Callables → Scope → ℕ → Result (Flow × ℕ) Trap
+
+-- goes on where a statement did not return
+abbrev pub and_then : Result (Flow × ℕ) Trap → (Scope → ℕ → Result (Flow × ℕ) Trap) → Result (Flow × ℕ) Trap
+and_then done next =
+    then_do done (λ flow turns. elim flow [ Going scope ↦ next scope turns | Returned value ↦ Ok (Returned value, turns) ])
+
+-- statements one after another
+abbrev pub in_sequence : List Doing → Doing
+in_sequence [] callables scope turns = Ok (Going scope, turns)
+in_sequence (first ∷ rest) callables scope turns =
+    and_then (first callables scope turns) (λ scope turns. in_sequence rest callables scope turns)
+
+-- the scope behind a block: the names that were declared in it are gone
+abbrev pub left_behind : (outer inner : Scope) → Scope
+left_behind outer inner = drop (length inner - length outer) inner
+
+-- statements whose declarations end with them
+abbrev pub in_block : List Doing → Doing
+in_block statements callables scope turns =
+    and_then (in_sequence statements callables scope turns) (λ inner turns. Ok (Going (left_behind scope inner), turns))
+
+abbrev pub value_in : Expr → Callables → Scope → ℕ → Result (ℤ × ℕ) Trap
+value_in expr callables scope turns = (meaning_of expr).value (names_in callables scope) turns
+
+-- A loop from its test on. Each turn is one of the turns left, and the loop has a trap where it would begin one more.
+-- `most` is at least the turns left, so the loop ends before it.
+unfoldable pub looped : (most : ℕ) → (test : Expr) → (body step : Doing) → Doing
+looped zero test body step callables scope turns =
+    then_do (value_in test callables scope turns) (λ value turns. if holds value then Err Turns else Ok (Going scope, turns))
+looped (suc fewer) test body step callables scope turns =
+    then_do (value_in test callables scope turns) (λ value turns.
+    if holds value then elim turns [
+      | zero ↦ Err Turns
+      | suc left ↦
+          and_then (body callables scope left) (λ scope turns.
+          and_then (step callables scope turns) (λ scope turns. looped fewer test body step callables scope turns))
+    ] else Ok (Going scope, turns))
+
+-- a new number for the latest scalar of a name
+abbrev pub assigned : List ℕ → ℤ → Scope → Scope
+assigned name value = rebound name (λ binding. scalar_binding (kind_type binding.kind) value)
+
+-- What a statement of a function does, its parts being replaced by what they do. A function has no others than these.
+abbrev pub doing_step : What-F Doing Doing → Doing
+doing_step (Declare ty name expr) callables scope turns =
+    then_do (value_in expr callables scope turns) (λ value turns. Ok (Going ((name, scalar_binding ty value) ∷ scope), turns))
+doing_step (Assign name expr) callables scope turns =
+    then_do (value_in expr callables scope turns) (λ value turns. Ok (Going (assigned name value scope), turns))
+doing_step (If test one other) callables scope turns =
+    then_do (value_in test callables scope turns) (λ value turns.
+    in_block (if holds value then one else other) callables scope turns)
+doing_step (For first test step body) callables scope turns =
+    and_then (first callables scope turns) (λ inner turns.
+    and_then (looped turns test (in_block body) step callables inner turns) (λ inner turns.
+    Ok (Going (left_behind scope inner), turns)))
+doing_step (Return expr) callables scope turns =
+    then_do (value_in expr callables scope turns) (λ value turns. Ok (Returned value, turns))
+doing_step what callables scope turns = Ok (Going scope, turns)
+
+-- what a statement of a function does
+abbrev pub doing_of : Statement → Doing
+doing_of = fold-Statement Doing Doing doing_step (λ statement. statement.what)
+
+-- the parameters with their arguments, the latest first
+abbrev pub scope_of : List Param → List Argument → Scope
+scope_of params arguments = reverse (map (λ pair. (pair.0.name, argument_binding pair.0.kind pair.1)) (zip params arguments))
+
+-- the value that a function returns, wrapped to its type
+abbrev pub returned : Ty → Result (Flow × ℕ) Trap → Result (ℤ × ℕ) Trap
+returned ty done =
+    then_do done (λ flow turns. elim flow [ Going scope ↦ Ok (pos 0, turns) | Returned value ↦ Ok (wrapped ty value, turns) ])
+
+-- the value of a function for arguments and the turns left, beside the turns that are then left, or its first trap
+abbrev pub apply_of : Callables → Function → List Argument → ℕ → Result (ℤ × ℕ) Trap
+apply_of earlier function arguments turns =
+    returned function.ret (in_sequence (map doing_of function.body) earlier (scope_of function.params arguments) turns)
+
+abbrev pub callable_of : Callables → Function → Callable
+callable_of earlier function =
+    record { ret = function.ret; kinds = map (λ param. param.kind) function.params; call = apply_of earlier function }
+
+-- functions in text order, each of which may call those before it; the latest first
+abbrev pub callables_after : Callables → List Function → Callables
+callables_after earlier [] = earlier
+callables_after earlier (function ∷ functions) =
+    callables_after ((function.name, callable_of earlier function) ∷ earlier) functions
+
+abbrev pub callables_of : List Function → Callables
+callables_of = callables_after []
+
+-- how many turns one invocation may take
+abbrev pub turn_limit : ℕ
+turn_limit = 65536
+
+abbrev pub value_only : {A S F : Type 0} → Result (A × S) F → Result A F
+value_only (Ok done) = Ok done.0
+value_only (Err stop) = Err stop
+
+-- the value of one invocation, or its first trap
+abbrev pub value_of : Callable → List Argument → Result ℤ Trap
+value_of callable arguments = value_only (callable.call arguments turn_limit)

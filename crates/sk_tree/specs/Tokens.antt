@@ -54,18 +54,22 @@ judged bytes (NumberLexeme value suffixed) after =
 judged bytes (TextLexeme text) after = if nat_le (length text) 255 then Found bytes (Text text) else Faulty LongName
 judged bytes (SignLexeme sign) after = Found bytes (Sign sign)
 
--- What stands at the front of the rest. Blanks, comments and lines that begin with `#include` are passed over; else it
--- is the longest token.
-unfoldable pub piece_at : (before rest : List ℕ) → Piece
-piece_at before [] = Faulty NoToken
-piece_at before (byte ∷ rest) =
+-- the longest token at the front of the rest
+unfoldable pub token_at : (rest : List ℕ) → Piece
+token_at rest = elim (longest_of (length rest) rest) [ Some found ↦ judged found.0 found.1 (drop found.0 rest) | None ↦ Faulty NoToken ]
+
+-- What stands at the front of the rest, before which blanks alone stand on the line or not. Blanks, comments and lines
+-- that begin with `#include` are passed over; else it is the longest token.
+unfoldable pub piece_at : (begins_line : Bool) → (rest : List ℕ) → Piece
+piece_at begins_line [] = Faulty NoToken
+piece_at begins_line (byte ∷ rest) =
     let all : List ℕ = byte ∷ rest in
     let begins : List ℕ → Bool = starts_with (λ a b. a == b) all in
     if is_blank byte then Passed 1
     else if begins (codes "//") then Passed (line_rest all)
     else if begins (codes "/*") then elim (comment_rest (drop 2 all)) [ Some bytes ↦ Passed (2 + bytes) | None ↦ Faulty NoToken ]
-    else if byte == 35 then (if begins (codes "#include") && is_line_start before then Passed (line_rest all) else Faulty NoToken)
-    else elim (longest_of (length all) all) [ Some found ↦ judged found.0 found.1 (drop found.0 all) | None ↦ Faulty NoToken ]
+    else if byte == 35 then (if begins (codes "#include") && begins_line then Passed (line_rest all) else Faulty NoToken)
+    else token_at all
 
 -- one more token in front, unless there is a fault
 abbrev pub with_token : Token → Result (List Token) TokenFault → Result (List Token) TokenFault
@@ -79,7 +83,7 @@ tokens_from zero before (byte ∷ rest) = Ok []
 tokens_from (suc fewer) before (byte ∷ rest) =
     let all : List ℕ = byte ∷ rest in
     let further : ℕ → Result (List Token) TokenFault = λ bytes. tokens_from fewer (before ++ take bytes all) (drop bytes all) in
-    elim (piece_at before all) [
+    elim (piece_at (is_line_start before) all) [
       | Passed bytes ↦ further bytes
       | Found bytes kind ↦ with_token (record { what = kind; line = line_after before }) (further bytes)
       | Faulty fault ↦ Err (fault (length before))

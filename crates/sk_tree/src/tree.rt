@@ -88,7 +88,8 @@ pub enum Item {
     End,
 }
 
-/// A statement and its line, that of its first token.
+/// A statement and its line: that of its first token, but for the first statement and the step of a `for`, which have the
+/// line of the keyword.
 #[derive(Debug, Drop)]
 #[cycle(statement)]
 pub struct Statement {
@@ -126,7 +127,7 @@ pub enum What {
 #[derive(Clone, Copy, PartialEq, Eq, Debug)]
 pub enum ParamKind {
     Scalar(Ty),
-    /// The place of the result element (SkePU's `IndexND`).
+    /// The place that is computed (SkePU's `IndexND`).
     Index(u8),
     /// A whole container (SkePU's `Vec`, `Mat`, `Ten3` and `Ten4`).
     Proxy(u8, Ty),

@@ -1,0 +1,5 @@
+pub mod AnswerLemmas
+pub mod AskedLemmas
+pub mod EagerFirst
+pub mod PartsLemmas
+pub mod RanLemmas

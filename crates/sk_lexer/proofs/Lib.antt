@@ -1,0 +1,10 @@
+pub mod Blanks
+pub mod Longest
+pub mod Numbers
+pub mod PieceLemmas
+pub mod PlaceLemmas
+pub mod Prefixes
+pub mod Runs
+pub mod Signs
+pub mod Strings
+pub mod Words

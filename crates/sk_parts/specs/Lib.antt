@@ -1,0 +1,4 @@
+pub mod Choosers
+pub mod Cut
+pub mod CutLaws
+pub mod Edge

@@ -1,0 +1,6 @@
+pub mod PieceLemmas
+pub mod SideLemmas
+pub mod StateLemmas
+pub mod VecLemmas
+pub mod ReadLemmas
+pub mod ViewLemmas

@@ -1,5 +1,5 @@
 -- Two lists that agree place by place.
-use Rattle.std.proofs.Common.{◌≡◌, ℕ, ◌<◌, suc, List, [], ◌∷◌, map, length, Bool, true, false, MatchBool, IsTrue, refl, ap, arith}
+use Rattle.std.proofs.Common.{◌≡◌, ℕ, ◌<◌, List, [], ◌∷◌, map, length, Bool, true, false, MatchBool, IsTrue, refl, arith}
 use Rattle.std.specs.List.{zip, All, AllWithin, HoldsAt}
 use Rattle.std.proofs.lemmas.List.Elements.{All-from_all_within, All-nil, All-cons, All-head, All-tail}
 

@@ -1,15 +1,12 @@
 -- What the tests of a text say of its form.
-use Rattle.std.proofs.Common.{◌≡◌, ◌∙◌, sym, ℕ, List, map, Ok, ap, subst}
+use Rattle.std.proofs.Common.{◌≡◌, ◌∙◌, sym, ℕ, List, Ok, ap, subst}
 use Rattle.std.specs.List.{flat_map}
 use Rattle.sk_tree.specs.Tokens.{tokens_of}
 use Rattle.sk_tree.specs.declared.token.Token.{Token}
-use Rattle.sk_tree.specs.declared.token.TokenKind.{TokenKind}
 use Rattle.sk_parser.specs.FirstForm.{Holes, AreFine, IsFilled, IsNotFirst, first_kinds, first_bytes}
+use Rattle.sk_parser.specs.Pieces.{kinds_of}
 use Rattle.sk_parser.specs.Spelling.{plain_bytes}
 use Rattle.sk_parser.proofs.Text.{flat_map-first_kinds}
-
-abbrev pub kinds_of : List Token → List TokenKind
-kinds_of tokens = map (λ token. token.what) tokens
 
 -- the holes that were found are those of any reading of these tokens
 abbrev pub Finds : List Token → Holes → Type 0

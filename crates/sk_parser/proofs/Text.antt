@@ -1,5 +1,5 @@
 -- The bytes of the form, grouped from the right as its pieces give them.
-use Rattle.std.proofs.Common.{◌≡◌, ◌∙◌, ap, ℕ, List, ◌++◌, refl, sym, append_assoc, codes, arith}
+use Rattle.std.proofs.Common.{◌≡◌, ◌++◌, refl, append_assoc, codes, arith}
 use Rattle.std.proofs.lemmas.Fmt.{decimal_digit}
 use Rattle.std.specs.Fmt.{decimal}
 use Rattle.std.specs.List.{flat_map}

@@ -21,7 +21,6 @@ use Rattle.sk_tree.specs.declared.tree.Skeleton.TheVariants.{Map}
 use Rattle.sk_tree.specs.declared.tree.Statement.{Statement}
 use Rattle.sk_tree.specs.declared.tree.What.{What}
 use Rattle.sk_tree.specs.declared.tree.What.TheVariants.{Instance, Make, Call, Print, Return}
-
 -- the operator of the function
 pub use Rattle.sk_parser.specs.declared.holes.Operator.{Operator}
 pub use Rattle.sk_parser.specs.declared.holes.Operator.TheVariants.{Plus, Minus, Times}

@@ -53,5 +53,7 @@ pub fn first(alloc: Global, text: &[u8]) -> Result<Program, FirstFault>
 /// A law: a text has one program of the first form at most.
 pub fn has_one_program()
     ensures { (text : List ℕ) (one other : Program) → IsFirst text one → IsFirst text other → one ≡ other }
-{
-}
+{}
+
+#[cfg(test)]
+mod tests;

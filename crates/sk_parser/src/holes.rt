@@ -1,10 +1,9 @@
-ghost use Rattle.std.specs.Prelude.{◌≡◌, ◌^◌, ◌<◌, ℕ, List, map, pos, IsTrue, ◌↔◌, IsSomeAnd, slice_get};
-ghost use Rattle.std.specs.Option.{option_map};
+ghost use Rattle.std.specs.Prelude.{◌≡◌, ◌^◌, ◌<◌, ℕ, List, pos, IsTrue, ◌↔◌, IsSomeAnd, slice_get};
 ghost use Rattle.sk_base.specs.declared.number.Ty.TheVariants.{Int};
 ghost use Rattle.sk_tree.specs.declared.token.TokenKind.TheVariants as kind;
-ghost use Rattle.sk_tree.specs.Words.{is_name};
-ghost use Rattle.sk_parser.specs.FirstForm.{AreFine, IsOwn, sign_of, first_kinds};
+ghost use Rattle.sk_parser.specs.FirstForm.{AreFine, sign_of, first_kinds};
 ghost use Rattle.sk_parser.specs.FirstForm as form;
+ghost use Rattle.sk_parser.specs.Pieces.{kinds_of};
 
 use crate::words::is_own;
 use sk_tree::{Sign, Token, TokenKind, Ty};
@@ -57,22 +56,23 @@ impl<'a> Model for Holes<'a> {
     ghost Value = { form.Holes };
 
     ghost view = { λ holes. record {
-        function = holes.function.now;
-        parameter = holes.parameter.now;
-        operator = holes.operator;
-        constant = holes.constant;
-        instance = holes.instance.now;
-        vector = holes.vector.now;
-        size = holes.size;
-        fill = holes.fill;
-        at = holes.at;
+      function = holes.function.now;
+      parameter = holes.parameter.now;
+      operator = holes.operator;
+      constant = holes.constant;
+      instance = holes.instance.now;
+      vector = holes.vector.now;
+      size = holes.size;
+      fill = holes.fill;
+      at = holes.at;
     } };
 }
 
 impl<'a> Holes<'a> {
-    /// What the tokens have where the form has its holes. Whether the tokens are those of the form is left open.
+    /// What the tokens have where the form has its holes. Of tokens that are not those of the form it may find some too.
     pub fn find(tokens: &'a [Token]) -> Option<Holes<'a>>
-        ensures { (holes : form.Holes) → map (λ token. token.what) tokens.now ≡ first_kinds holes → AreFine holes → IsSomeAnd result (λ found. found ≡ holes) }
+        ensures { (holes : form.Holes) → kinds_of tokens.now ≡ first_kinds holes → AreFine holes
+            → IsSomeAnd result (λ found. found ≡ holes) }
     {
         Some(Holes {
             function: word_at(tokens, 1)?,
@@ -107,7 +107,8 @@ impl<'a> Holes<'a> {
 }
 
 fn word_at(tokens: &[Token], at: usize) -> Option<&[u8]>
-    ensures { (word : List ℕ) → slice_get (map (λ token. token.what) tokens.now) at ≡ Some (kind.Word word) → IsSomeAnd result (λ found. found.now ≡ word) }
+    ensures { (word : List ℕ) → slice_get (kinds_of tokens.now) at ≡ Some (kind.Word word)
+        → IsSomeAnd result (λ found. found.now ≡ word) }
 {
     match &tokens.get(at)?.what {
         TokenKind::Word(word) => Some(word.as_bytes()),
@@ -116,7 +117,8 @@ fn word_at(tokens: &[Token], at: usize) -> Option<&[u8]>
 }
 
 fn number_at(tokens: &[Token], at: usize) -> Option<u32>
-    ensures { (value : ℕ) → slice_get (map (λ token. token.what) tokens.now) at ≡ Some (kind.Number Int (pos value)) → value < 2 ^ 32 → result ≡ Some value }
+    ensures { (value : ℕ) → slice_get (kinds_of tokens.now) at ≡ Some (kind.Number Int (pos value))
+        → value < 2 ^ 32 → result ≡ Some value }
 {
     match &tokens.get(at)?.what {
         TokenKind::Number(Ty::Int, value) => u32::try_from(*value).ok(),
@@ -125,7 +127,8 @@ fn number_at(tokens: &[Token], at: usize) -> Option<u32>
 }
 
 fn operator_at(tokens: &[Token], at: usize) -> Option<Operator>
-    ensures { (operator : form.Operator) → slice_get (map (λ token. token.what) tokens.now) at ≡ Some (kind.Sign (sign_of operator)) → result ≡ Some operator }
+    ensures { (operator : form.Operator)
+        → slice_get (kinds_of tokens.now) at ≡ Some (kind.Sign (sign_of operator)) → result ≡ Some operator }
 {
     match &tokens.get(at)?.what {
         TokenKind::Sign(Sign::Plus) => Some(Operator::Plus),

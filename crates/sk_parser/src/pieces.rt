@@ -1,6 +1,6 @@
 ghost use Rattle.std.specs.Prelude.{◌≡◌, map, IsTrue, ◌↔◌};
 ghost use Rattle.sk_parser.specs.FirstForm.{first_kinds};
-ghost use Rattle.sk_parser.specs.Pieces.{kind_of};
+ghost use Rattle.sk_parser.specs.Pieces.{kind_of, kinds_of};
 
 use crate::holes::Holes;
 use sk_tree::{Sign as Mark, Token, TokenKind, Ty};
@@ -30,7 +30,7 @@ impl<'a> Piece<'a> {
 
 /// Whether the tokens are these pieces.
 pub fn are_pieces(tokens: &[Token], pieces: &[Piece]) -> bool
-    ensures { IsTrue result ↔ (map (λ token. token.what) tokens.now ≡ map kind_of pieces.now) }
+    ensures { IsTrue result ↔ (kinds_of tokens.now ≡ map kind_of pieces.now) }
 {
     tokens.len() == pieces.len()
         && tokens
@@ -45,20 +45,77 @@ pub fn pieces<'a>(holes: &Holes<'a>) -> [Piece<'a>; 65]
 {
     use Piece::{Number, Sign, Word};
     [
-        Word(b"int"), Word(holes.function), Sign(Mark::OpenParen), Word(b"int"), Word(holes.parameter), Sign(Mark::CloseParen),
-        Sign(Mark::OpenBrace), Word(b"return"), Word(holes.parameter), Sign(holes.operator.sign()), Number(holes.constant),
-        Sign(Mark::Semi), Sign(Mark::CloseBrace),
-        Word(b"int"), Word(b"main"), Sign(Mark::OpenParen), Sign(Mark::CloseParen), Sign(Mark::OpenBrace),
-        Word(b"auto"), Word(holes.instance), Sign(Mark::Eq), Word(b"skepu"), Sign(Mark::Path), Word(b"Map"),
-        Sign(Mark::OpenParen), Word(holes.function), Sign(Mark::CloseParen), Sign(Mark::Semi),
-        Word(b"skepu"), Sign(Mark::Path), Word(b"Vector"), Sign(Mark::Lt), Word(b"int"), Sign(Mark::Gt),
-        Word(holes.vector), Sign(Mark::OpenParen), Number(holes.size), Sign(Mark::Comma), Number(holes.fill), Sign(Mark::CloseParen),
+        // int F(int A) { return A OP K; }
+        Word(b"int"),
+        Word(holes.function),
+        Sign(Mark::OpenParen),
+        Word(b"int"),
+        Word(holes.parameter),
+        Sign(Mark::CloseParen),
+        Sign(Mark::OpenBrace),
+        Word(b"return"),
+        Word(holes.parameter),
+        Sign(holes.operator.sign()),
+        Number(holes.constant),
         Sign(Mark::Semi),
-        Word(holes.instance), Sign(Mark::OpenParen), Word(holes.vector), Sign(Mark::Comma), Word(holes.vector), Sign(Mark::CloseParen),
+        Sign(Mark::CloseBrace),
+        // int main() {
+        Word(b"int"),
+        Word(b"main"),
+        Sign(Mark::OpenParen),
+        Sign(Mark::CloseParen),
+        Sign(Mark::OpenBrace),
+        // auto M = skepu::Map(F);
+        Word(b"auto"),
+        Word(holes.instance),
+        Sign(Mark::Eq),
+        Word(b"skepu"),
+        Sign(Mark::Path),
+        Word(b"Map"),
+        Sign(Mark::OpenParen),
+        Word(holes.function),
+        Sign(Mark::CloseParen),
         Sign(Mark::Semi),
-        Word(b"std"), Sign(Mark::Path), Word(b"cout"), Sign(Mark::Shl), Word(holes.vector), Sign(Mark::OpenParen),
-        Number(holes.at), Sign(Mark::CloseParen), Sign(Mark::Shl), Word(b"std"), Sign(Mark::Path), Word(b"endl"),
+        // skepu::Vector<int> V(N, X);
+        Word(b"skepu"),
+        Sign(Mark::Path),
+        Word(b"Vector"),
+        Sign(Mark::Lt),
+        Word(b"int"),
+        Sign(Mark::Gt),
+        Word(holes.vector),
+        Sign(Mark::OpenParen),
+        Number(holes.size),
+        Sign(Mark::Comma),
+        Number(holes.fill),
+        Sign(Mark::CloseParen),
         Sign(Mark::Semi),
-        Word(b"return"), Number(0), Sign(Mark::Semi), Sign(Mark::CloseBrace),
+        // M(V, V);
+        Word(holes.instance),
+        Sign(Mark::OpenParen),
+        Word(holes.vector),
+        Sign(Mark::Comma),
+        Word(holes.vector),
+        Sign(Mark::CloseParen),
+        Sign(Mark::Semi),
+        // std::cout << V(I) << std::endl;
+        Word(b"std"),
+        Sign(Mark::Path),
+        Word(b"cout"),
+        Sign(Mark::Shl),
+        Word(holes.vector),
+        Sign(Mark::OpenParen),
+        Number(holes.at),
+        Sign(Mark::CloseParen),
+        Sign(Mark::Shl),
+        Word(b"std"),
+        Sign(Mark::Path),
+        Word(b"endl"),
+        Sign(Mark::Semi),
+        // return 0; }
+        Word(b"return"),
+        Number(0),
+        Sign(Mark::Semi),
+        Sign(Mark::CloseBrace),
     ]
 }

@@ -1,6 +1,7 @@
-ghost use Rattle.std.specs.Prelude.{◌≡◌, ◌++◌, not, map, filter, IfOk, OnOk, IsTrue, ◌↔◌};
+ghost use Rattle.std.specs.Prelude.{◌≡◌, ◌++◌, not, filter, IfOk, OnOk, IsTrue, ◌↔◌};
 ghost use Rattle.std.specs.List.{flat_map};
 ghost use Rattle.sk_tree.specs.Lexemes.{is_blank};
+ghost use Rattle.sk_parser.specs.Pieces.{kinds_of};
 ghost use Rattle.sk_parser.specs.Spelling.{sign_bytes, plain_bytes};
 
 use itoa::Buffer;
@@ -9,7 +10,8 @@ use std::alloc::{AllocError, Global};
 
 /// Whether the text is its tokens, each as it is spelled plainly, and nothing but blanks between them.
 pub fn is_plain(alloc: Global, text: &[u8], tokens: &[Token]) -> Result<bool, AllocError>
-    ensures { IfOk result (λ plain. IsTrue plain ↔ (filter (λ byte. not (is_blank byte)) text.now ≡ flat_map plain_bytes (map (λ token. token.what) tokens.now))) }
+    ensures { IfOk result (λ plain. IsTrue plain
+        ↔ (filter (λ byte. not (is_blank byte)) text.now ≡ flat_map plain_bytes (kinds_of tokens.now))) }
 {
     let spelled = spelled(alloc, tokens)?;
     let bare = without_blanks(alloc, text)?;
@@ -19,7 +21,10 @@ pub fn is_plain(alloc: Global, text: &[u8], tokens: &[Token]) -> Result<bool, Al
 fn without_blanks(alloc: Global, text: &[u8]) -> Result<Vec<u8>, AllocError>
     ensures { IfOk result (λ bytes. bytes.items ≡ filter (λ byte. not (is_blank byte)) text.now) }
 {
-    text.iter().copied().filter(|byte| !is_blank(*byte)).collect(alloc)
+    text.iter()
+        .copied()
+        .filter(|byte| !is_blank(*byte))
+        .collect(alloc)
 }
 
 fn is_blank(byte: u8) -> bool
@@ -29,7 +34,7 @@ fn is_blank(byte: u8) -> bool
 }
 
 fn spelled(alloc: Global, tokens: &[Token]) -> Result<Vec<u8>, AllocError>
-    ensures { IfOk result (λ bytes. bytes.items ≡ flat_map plain_bytes (map (λ token. token.what) tokens.now)) }
+    ensures { IfOk result (λ bytes. bytes.items ≡ flat_map plain_bytes (kinds_of tokens.now)) }
 {
     let mut bytes = Vec::new(alloc);
     for token in tokens {
@@ -52,7 +57,7 @@ fn spell(bytes: &mut Vec<u8>, kind: &TokenKind) -> Result<(), AllocError>
     }
 }
 
-/// How a sign of the form is spelled. Of others it gives nothing.
+/// How a sign of the form is spelled; the form has no others.
 fn sign_bytes(sign: Sign) -> &'static [u8]
     ensures { result.now ≡ sign_bytes sign }
 {

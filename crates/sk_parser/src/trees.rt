@@ -1,4 +1,4 @@
-ghost use Rattle.std.specs.Prelude.{◌≡◌, map, length, pos, [], ◌∷◌, ◌++◌, IfOk, OnOk, slice_index};
+ghost use Rattle.std.specs.Prelude.{◌≡◌, length, pos, [], ◌∷◌, ◌++◌, IfOk, OnOk};
 ghost use Rattle.sk_base.specs.declared.number.Ty.TheVariants.{Int};
 ghost use Rattle.sk_tree.specs.declared.tree.Expr.TheVariants as expr;
 ghost use Rattle.sk_tree.specs.declared.tree.Item.TheVariants as item;
@@ -6,6 +6,7 @@ ghost use Rattle.sk_tree.specs.declared.tree.ParamKind.TheVariants.{Scalar};
 ghost use Rattle.sk_tree.specs.declared.tree.Skeleton.TheVariants as skeleton;
 ghost use Rattle.sk_tree.specs.declared.tree.What.TheVariants as what;
 ghost use Rattle.sk_parser.specs.FirstForm.{first_function, first_main, first_tree, at_line, op_of};
+ghost use Rattle.sk_parser.specs.Pieces.{lines_of};
 
 use crate::holes::{Holes, Operator};
 use sk_tree::{
@@ -18,7 +19,7 @@ use std::alloc::{AllocError, Global};
 /// The program of a text that has these holes and tokens.
 pub fn program(alloc: Global, holes: &Holes, tokens: &[Token]) -> Result<Program, AllocError>
     requires { length tokens.now ≡ 65 }
-    ensures { IfOk result (λ program. program ≡ first_tree holes.now (map (λ token. token.line) tokens.now)) }
+    ensures { IfOk result (λ program. program ≡ first_tree holes.now (lines_of tokens.now)) }
 {
     let mut functions = Items::new(alloc);
     functions.push(function(alloc, holes, tokens[0].line, tokens[7].line)?)?;
@@ -52,8 +53,15 @@ fn params(alloc: Global, holes: &Holes) -> Result<Items<Param>, AllocError>
     Ok(Items::from_vec(vec![in alloc; param]?))
 }
 
-fn push_value(alloc: Global, holes: &Holes, line: u32, body: &mut Items<Statement>) -> Result<(), AllocError>
-    ensures { OnOk result (body.new ≡ body.old ++ at_line line (what.Return (expr.Binary (op_of holes.now.operator) (expr.Name holes.now.parameter) (expr.Number Int (pos holes.now.constant)))) ∷ []) }
+fn push_value(
+    alloc: Global,
+    holes: &Holes,
+    line: u32,
+    body: &mut Items<Statement>,
+) -> Result<(), AllocError>
+    ensures { OnOk result (body.new ≡ body.old ++ at_line line (what.Return
+        (expr.Binary (op_of holes.now.operator) (expr.Name holes.now.parameter)
+        (expr.Number Int (pos holes.now.constant)))) ∷ []) }
 {
     let parameter = name(alloc, holes.parameter)?;
     let left = Boxed::new(alloc, parameter)?;
@@ -64,7 +72,7 @@ fn push_value(alloc: Global, holes: &Holes, line: u32, body: &mut Items<Statemen
 
 fn main_function(alloc: Global, holes: &Holes, tokens: &[Token]) -> Result<Function, AllocError>
     requires { length tokens.now ≡ 65 }
-    ensures { IfOk result (λ main. main ≡ first_main holes.now (map (λ token. token.line) tokens.now)) }
+    ensures { IfOk result (λ main. main ≡ first_main holes.now (lines_of tokens.now)) }
 {
     let name = Name::from_slice(alloc, b"main")?;
     let mut body = Items::new(alloc);
@@ -82,8 +90,18 @@ fn main_function(alloc: Global, holes: &Holes, tokens: &[Token]) -> Result<Funct
     })
 }
 
-fn push_instance(alloc: Global, holes: &Holes, line: u32, body: &mut Items<Statement>) -> Result<(), AllocError>
-    ensures { OnOk result (body.new ≡ body.old ++ at_line line (what.Instance (record { name = holes.now.instance; skeleton = skeleton.Map; numbers = []; functions = holes.now.function ∷ [] })) ∷ []) }
+fn push_instance(
+    alloc: Global,
+    holes: &Holes,
+    line: u32,
+    body: &mut Items<Statement>,
+) -> Result<(), AllocError>
+    ensures { OnOk result (body.new ≡ body.old ++ at_line line (what.Instance (record {
+      name = holes.now.instance;
+      skeleton = skeleton.Map;
+      numbers = [];
+      functions = holes.now.function ∷ [];
+    })) ∷ []) }
 {
     let name = Name::from_slice(alloc, holes.instance)?;
     let function = Name::from_slice(alloc, holes.function)?;
@@ -96,8 +114,14 @@ fn push_instance(alloc: Global, holes: &Holes, line: u32, body: &mut Items<State
     body.push(Statement { line, what })
 }
 
-fn push_container(alloc: Global, holes: &Holes, line: u32, body: &mut Items<Statement>) -> Result<(), AllocError>
-    ensures { OnOk result (body.new ≡ body.old ++ at_line line (what.Make 1 Int holes.now.vector (expr.Number Int (pos holes.now.size) ∷ expr.Number Int (pos holes.now.fill) ∷ [])) ∷ []) }
+fn push_container(
+    alloc: Global,
+    holes: &Holes,
+    line: u32,
+    body: &mut Items<Statement>,
+) -> Result<(), AllocError>
+    ensures { OnOk result (body.new ≡ body.old ++ at_line line (what.Make 1 Int holes.now.vector
+        (expr.Number Int (pos holes.now.size) ∷ expr.Number Int (pos holes.now.fill) ∷ [])) ∷ []) }
 {
     let vector = Name::from_slice(alloc, holes.vector)?;
     let arguments = vec![in alloc; number(holes.size), number(holes.fill)]?;
@@ -105,8 +129,14 @@ fn push_container(alloc: Global, holes: &Holes, line: u32, body: &mut Items<Stat
     body.push(Statement { line, what })
 }
 
-fn push_call(alloc: Global, holes: &Holes, line: u32, body: &mut Items<Statement>) -> Result<(), AllocError>
-    ensures { OnOk result (body.new ≡ body.old ++ at_line line (what.Call holes.now.instance (expr.Name holes.now.vector ∷ expr.Name holes.now.vector ∷ [])) ∷ []) }
+fn push_call(
+    alloc: Global,
+    holes: &Holes,
+    line: u32,
+    body: &mut Items<Statement>,
+) -> Result<(), AllocError>
+    ensures { OnOk result (body.new ≡ body.old ++ at_line line (what.Call holes.now.instance
+        (expr.Name holes.now.vector ∷ expr.Name holes.now.vector ∷ [])) ∷ []) }
 {
     let instance = Name::from_slice(alloc, holes.instance)?;
     let result = name(alloc, holes.vector)?;
@@ -116,8 +146,15 @@ fn push_call(alloc: Global, holes: &Holes, line: u32, body: &mut Items<Statement
     body.push(Statement { line, what })
 }
 
-fn push_print(alloc: Global, holes: &Holes, line: u32, body: &mut Items<Statement>) -> Result<(), AllocError>
-    ensures { OnOk result (body.new ≡ body.old ++ at_line line (what.Print (item.Value (expr.Apply holes.now.vector (expr.Number Int (pos holes.now.at) ∷ [])) ∷ item.End ∷ [])) ∷ []) }
+fn push_print(
+    alloc: Global,
+    holes: &Holes,
+    line: u32,
+    body: &mut Items<Statement>,
+) -> Result<(), AllocError>
+    ensures { OnOk result (body.new ≡ body.old ++ at_line line (what.Print
+        (item.Value (expr.Apply holes.now.vector (expr.Number Int (pos holes.now.at) ∷ [])) ∷ item.End ∷ []))
+        ∷ []) }
 {
     let vector = Name::from_slice(alloc, holes.vector)?;
     let place = Items::from_vec(vec![in alloc; number(holes.at)]?);

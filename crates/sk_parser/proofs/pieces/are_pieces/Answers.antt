@@ -1,5 +1,4 @@
-use Rattle.std.proofs.Common.{◌≡◌, rules, tests, map, length, IsTrue, List}
-use Rattle.std.specs.List.{zip}
+use Rattle.std.proofs.Common.{◌≡◌, rules, tests, List}
 use Rattle.std.proofs.lemmas.Iterator.{YieldsList-from_slice, YieldsList-from_zip, cases_from_all}
 use Rattle.sk_tree.specs.declared.token.Token.{Token}
 use Rattle.sk_parser.specs.declared.pieces.Piece.{Piece}

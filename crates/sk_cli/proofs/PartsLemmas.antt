@@ -8,7 +8,7 @@ use Rattle.sk_parser.specs.FirstForm.{Holes, AreFine}
 use Rattle.sk_cli.specs.declared.parts.Parts.{Parts}
 use Rattle.sk_cli.specs.Parts.{parts_in}
 use Rattle.sk_cli.specs.FirstProgram.{element_in}
-use Rattle.sk_cli.proofs.EagerFirst.{exact-op}
+use Rattle.sk_cli.proofs.FirstFunction.{exact-op}
 
 -- a number that is read as it is
 read : (n : ℕ) → n < 2 ^ 32 → to_z w64 (of_z w64 (pos n)) ≡ pos n

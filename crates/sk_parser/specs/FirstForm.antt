@@ -23,10 +23,8 @@ use Rattle.sk_tree.specs.declared.tree.What.{What}
 use Rattle.sk_tree.specs.declared.tree.What.TheVariants.{Instance, Make, Call, Print, Return}
 
 -- the operator of the function
-pub data Operator : Type 0 where
-  Plus : Operator
-  Minus : Operator
-  Times : Operator
+pub use Rattle.sk_parser.specs.declared.holes.Operator.{Operator}
+pub use Rattle.sk_parser.specs.declared.holes.Operator.TheVariants.{Plus, Minus, Times}
 
 abbrev pub op_of : Operator → Op
 op_of Plus = Add

@@ -1,5 +1,5 @@
 -- What the run of a program of the first form prints.
-use Rattle.std.proofs.Common.{◌≡◌, ℕ, List, [], ◌∷◌, ◌∙◌, ap, ◌==◌, pos, ℤ, rules, arith, Result, Ok, Err, suc, true, ◌≤◌, ◌<◌, ◌+◌, ◌*◌, slice_index, ◌++◌, replicate, slice_index_or}
+use Rattle.std.proofs.Common.{◌≡◌, ℕ, List, [], ◌∷◌, ◌∙◌, ap, ◌==◌, pos, ℤ, rules, arith, Result, Ok, suc, true, ◌≤◌, ◌<◌, ◌+◌, ◌*◌, slice_index, ◌++◌, replicate, slice_index_or}
 use Rattle.std.proofs.lemmas.List.{get_or-replicate}
 use Rattle.std.specs.Fmt.{signed_decimal}
 use Rattle.sk_base.specs.declared.number.Trap.{Trap}
@@ -10,9 +10,9 @@ use Rattle.sk_tree.specs.declared.tree.Expr.TheVariants as expression
 use Rattle.sk_tree.specs.declared.tree.Skeleton.TheVariants.{Map}
 use Rattle.sk_tree.specs.declared.tree.What.TheVariants as what
 use Rattle.sk_tree.specs.BindingsLaws.{bound_to-here}
-use Rattle.sk_tree.specs.Eager.{eager_of, over_of, all_run, End, Over, MapInstance, Container, Running, running_of, State}
+use Rattle.sk_tree.specs.Eager.{eager_of, over_of, End, Over, MapInstance, Container, Running, running_of, State}
 use Rattle.sk_tree.specs.Evaluation.{Callable, Callables, callable_of}
-use Rattle.sk_tree.specs.Formula.{Operand, map_element, map_of}
+use Rattle.sk_tree.specs.Formula.{map_element, map_of}
 use Rattle.sk_parser.specs.FirstForm.{Holes, AreFine, first_tree, first_function, at_line}
 use Rattle.sk_cli.specs.FirstProgram.{vector_in, print_in, element_in}
 use Rattle.sk_cli.proofs.FirstFunction.{first-value}

@@ -13,12 +13,14 @@ use Rattle.sk_tree.specs.declared.tree.What.TheOpen as layer
 use Rattle.sk_tree.specs.declared.tree.What.TheVariants as what
 use Rattle.sk_tree.specs.Bindings.{bound_to}
 use Rattle.sk_tree.specs.BindingsLaws.{same_bytes-same}
-use Rattle.sk_tree.specs.Evaluation.{Doing, doing_of, doing_step, value_of, value_in, names_in, callable_of, Scope, scalar_binding, turn_limit, Value}
+use Rattle.sk_tree.specs.Evaluation.{doing_of, doing_step, value_of, value_in, names_in, callable_of, Scope, scalar_binding, turn_limit, Value}
 use Rattle.sk_tree.specs.ExpressionLaws.{meaning-Number, meaning-Name, meaning-Binary}
 use Rattle.sk_tree.specs.Expressions.{Meaning, Names, meaning_of, meaning_step, operation_type, raised}
 use Rattle.sk_tree.specs.Lexemes.{same_bytes}
 use Rattle.sk_tree.specs.StatementLaws.{doing-statement, doing-roll}
-use Rattle.sk_parser.specs.FirstForm.{Holes, Operator, Plus, Minus, Times, first_function, at_line}
+use Rattle.sk_parser.specs.FirstForm.{Holes, first_function, at_line}
+use Rattle.sk_parser.specs.declared.holes.Operator.{Operator}
+use Rattle.sk_parser.specs.declared.holes.Operator.TheVariants.{Plus, Minus, Times}
 use Rattle.sk_parser.specs.FirstForm as first
 use Rattle.sk_cli.specs.FirstProgram.{exact_of, operation_in}
 
@@ -76,4 +78,3 @@ first-value h line body x small =
     let again : wrapped Int (wrapped Int (exact_of h.operator (pos x) (pos h.constant))) ≡ wrapped Int (exact_of h.operator (pos x) (pos h.constant)) =
     wrapped-same Int _ (wrapped-in_range Int (exact_of h.operator (pos x) (pos h.constant))) in
     rw (returning body (operation_in h), operation-value h x turn_limit small, again) refl
-

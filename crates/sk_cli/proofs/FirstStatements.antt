@@ -1,5 +1,5 @@
 -- What each statement of a program of the first form does.
-use Rattle.std.proofs.Common.{◌≡◌, ℕ, List, [], ◌∷◌, ◌∙◌, refl, arith, ap, ◌==◌, pos, ℤ, rules, Result, Ok, Err, map, suc, zero, true, Option, Some, None, ◌≤◌, ◌<◌, ◌+◌, ◌*◌, ◌^◌, nat_le, nat_lt, replicate, slice_index_or}
+use Rattle.std.proofs.Common.{◌≡◌, ℕ, List, [], ◌∷◌, ◌∙◌, refl, arith, ap, pos, ℤ, Result, Ok, Err, map, suc, zero, true, Some, ◌≤◌, ◌<◌, ◌+◌, ◌*◌, ◌^◌, nat_le, nat_lt, replicate, slice_index_or}
 use Rattle.std.proofs.lemmas.Bool.Decides.{nat_tests}
 use Rattle.std.proofs.lemmas.List.{get_or-replicate}
 use Rattle.std.specs.Fmt.{signed_decimal}
@@ -15,7 +15,6 @@ use Rattle.sk_tree.specs.declared.tree.Instance.{Instance as Declaration}
 use Rattle.sk_tree.specs.declared.tree.Item.{Item}
 use Rattle.sk_tree.specs.declared.tree.Item.TheVariants as item
 use Rattle.sk_tree.specs.declared.tree.Skeleton.TheVariants.{Map}
-use Rattle.sk_tree.specs.declared.tree.What.{What}
 use Rattle.sk_tree.specs.declared.tree.What.TheOpen as layer
 use Rattle.sk_tree.specs.declared.tree.What.TheVariants as what
 use Rattle.sk_tree.specs.Bindings.{bound_to, rebound}
@@ -23,7 +22,7 @@ use Rattle.sk_tree.specs.BindingsLaws.{same_bytes-same}
 use Rattle.sk_tree.specs.Eager.{End, all_run, and_run, item_run, printing, call_run, map_run, evaluated, main_names, Over, operands_of, sizes_in, with_result, leading_scalars, MapInstance, Container, Running, running_of, running_step, State}
 use Rattle.sk_tree.specs.Evaluation.{Callable, Callables, element_of}
 use Rattle.sk_tree.specs.ExpressionLaws.{meaning-Number, meaning-Apply}
-use Rattle.sk_tree.specs.Expressions.{Meaning, Names, meaning_of, meaning_step}
+use Rattle.sk_tree.specs.Expressions.{Meaning, meaning_of, meaning_step}
 use Rattle.sk_tree.specs.Formula.{Operand, TrapAt, elements_of, map_of}
 use Rattle.sk_tree.specs.Lexemes.{same_bytes}
 use Rattle.sk_tree.specs.StatementLaws.{running_what, running-statement, running-roll}
@@ -45,35 +44,35 @@ level-Instance : (instance : Declaration) (line : ℕ) (state : State)
     → running_of (at_line line (what.Instance instance)) state ≡ running_step (layer.Instance instance) line state
 level-Instance instance line state =
     let level : running_what (what.Instance instance) line ≡ running_step (layer.Instance instance) line =
-        rw (← what.rolls-Instance instance) (running-roll (layer.Instance instance) line) in
+    rw (← what.rolls-Instance instance) (running-roll (layer.Instance instance) line) in
     ap (λ (r : Running). r state) (running-statement line (what.Instance instance) ∙ level)
 
 level-Make : (dimension : ℕ) (ty : Ty) (name : List ℕ) (arguments : List Expr) (line : ℕ) (state : State)
     → running_of (at_line line (what.Make dimension ty name arguments)) state ≡ running_step (layer.Make dimension ty name arguments) line state
 level-Make dimension ty name arguments line state =
     let level : running_what (what.Make dimension ty name arguments) line ≡ running_step (layer.Make dimension ty name arguments) line =
-        rw (← what.rolls-Make dimension ty name arguments) (running-roll (layer.Make dimension ty name arguments) line) in
+    rw (← what.rolls-Make dimension ty name arguments) (running-roll (layer.Make dimension ty name arguments) line) in
     ap (λ (r : Running). r state) (running-statement line (what.Make dimension ty name arguments) ∙ level)
 
 level-Call : (name : List ℕ) (arguments : List Expr) (line : ℕ) (state : State)
     → running_of (at_line line (what.Call name arguments)) state ≡ running_step (layer.Call name arguments) line state
 level-Call name arguments line state =
     let level : running_what (what.Call name arguments) line ≡ running_step (layer.Call name arguments) line =
-        rw (← what.rolls-Call name arguments) (running-roll (layer.Call name arguments) line) in
+    rw (← what.rolls-Call name arguments) (running-roll (layer.Call name arguments) line) in
     ap (λ (r : Running). r state) (running-statement line (what.Call name arguments) ∙ level)
 
 level-Print : (items : List Item) (line : ℕ) (state : State)
     → running_of (at_line line (what.Print items)) state ≡ running_step (layer.Print items) line state
 level-Print items line state =
     let level : running_what (what.Print items) line ≡ running_step (layer.Print items) line =
-        rw (← what.rolls-Print items) (running-roll (layer.Print items) line) in
+    rw (← what.rolls-Print items) (running-roll (layer.Print items) line) in
     ap (λ (r : Running). r state) (running-statement line (what.Print items) ∙ level)
 
 level-Return : (expr : Expr) (line : ℕ) (state : State)
     → running_of (at_line line (what.Return expr)) state ≡ running_step (layer.Return expr) line state
 level-Return expr line state =
     let level : running_what (what.Return expr) line ≡ running_step (layer.Return expr) line =
-        rw (← what.rolls-Return expr) (running-roll (layer.Return expr) line) in
+    rw (← what.rolls-Return expr) (running-roll (layer.Return expr) line) in
     ap (λ (r : Running). r state) (running-statement line (what.Return expr) ∙ level)
 
 pub instance-runs : (name function : List ℕ) (callable : Callable) (callables : Callables) (instances : _) (containers : _) (printed : List ℕ) (fewer last line : ℕ)
@@ -212,4 +211,3 @@ goes-on statement rest state next is = rw (is, all_run) refl
 pub ends : (statement : Running) (rest : List Running) (state : State) (over : Over) → statement state ≡ Err over
     → all_run (statement ∷ rest) state ≡ Err over
 ends statement rest state over is = rw (is, all_run) refl
-

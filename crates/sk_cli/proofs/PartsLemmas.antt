@@ -1,7 +1,7 @@
 -- The numbers of a program of the first form, as the code reads them.
-use Rattle.std.proofs.Common.{◌≡◌, ◌<◌, ◌≤◌, ◌^◌, ℕ, ℤ, pos, Ok, List, replicate, to_z, of_z, w64, refl, arith, ap, sym, subst, ◌∙◌}
+use Rattle.std.proofs.Common.{◌≡◌, ◌<◌, ◌^◌, ℕ, ℤ, pos, Ok, List, replicate, to_z, of_z, w64, arith, ap, subst, ◌∙◌}
 use Rattle.std.proofs.lemmas.Int.{to_z-of_z}
-use Rattle.std.specs.Prelude.{FitsSigned, nat_abs}
+use Rattle.std.specs.Prelude.{nat_abs}
 use Rattle.sk_base.specs.Arithmetic.{op_of}
 use Rattle.sk_base.specs.declared.number.Ty.TheVariants.{Int}
 use Rattle.sk_parser.specs.FirstForm.{Holes, AreFine}

@@ -1,5 +1,5 @@
 -- What follows from the definition of bindings.
-use Rattle.std.proofs.Common.{◌≡◌, ℕ, ◌==◌, true, List, [], ◌∷◌, Option, Some, refl, rules}
+use Rattle.std.proofs.Common.{◌≡◌, ℕ, ◌==◌, true, List, [], ◌∷◌, Some, refl, rules}
 use Rattle.sk_tree.specs.Lexemes.{same_bytes}
 use Rattle.sk_tree.specs.Bindings.{bound_to}
 

@@ -12,7 +12,7 @@ doing_what = fold-What Doing Doing doing_step (λ statement. statement.what)
 pub doing-statement : (line : ℕ) (what : What) → doing_of (record { line = line; what = what }) ≡ doing_what what
 doing-statement line what =
     rw (← rolls-Statement' (record { line = line; what = what }))
-      (fold-roll-Statement Doing Doing doing_step (λ statement. statement.what) (record { line = line; what = what }))
+    (fold-roll-Statement Doing Doing doing_step (λ statement. statement.what) (record { line = line; what = what }))
 
 -- of one level, its parts are replaced by what they do
 pub doing-roll : (level : What-F What Statement)
@@ -26,7 +26,7 @@ running_what = fold-What (ℕ → Running) Running running_step (λ statement. s
 pub running-statement : (line : ℕ) (what : What) → running_of (record { line = line; what = what }) ≡ running_what what line
 running-statement line what =
     rw (← rolls-Statement' (record { line = line; what = what }))
-      (fold-roll-Statement (ℕ → Running) Running running_step (λ statement. statement.what statement.line) (record { line = line; what = what }))
+    (fold-roll-Statement (ℕ → Running) Running running_step (λ statement. statement.what statement.line) (record { line = line; what = what }))
 
 pub running-roll : (level : What-F What Statement) (line : ℕ)
     → running_what (roll-What level) line ≡ running_step (map-What What Statement (ℕ → Running) Running running_what running_of level) line

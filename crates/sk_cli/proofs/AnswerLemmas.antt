@@ -1,5 +1,5 @@
 -- Answers to sources as the files tell them.
-use Rattle.std.proofs.Common.{◌≡◌, ℕ, ◌<◌, ◌+◌, ◌^◌, List, Option, Some, None, refl, replicate, length, arith, inl, inr, codes, ◌⊎◌}
+use Rattle.std.proofs.Common.{◌≡◌, ℕ, ◌<◌, ◌+◌, List, Option, Some, None, refl, replicate, length, arith, inl, inr, codes}
 use Rattle.std.proofs.lemmas.List.{length-replicate}
 use Rattle.std.specs.Prelude.{IsSomeAnd}
 use Rattle.sk_outside.specs.Holding.{Contents, Tells, TellsLonger, SinkHolding}

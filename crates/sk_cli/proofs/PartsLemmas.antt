@@ -1,14 +1,14 @@
 -- The numbers of a program of the first form, as the code reads them.
-use Rattle.std.proofs.Common.{◌≡◌, ◌<◌, ◌≤◌, ◌^◌, ℕ, ℤ, pos, Ok, List, replicate, to_z, of_z, w64, refl, arith, ap, sym, subst, ◌∙◌}
+use Rattle.std.proofs.Common.{◌≡◌, ◌<◌, ◌^◌, ℕ, ℤ, pos, Ok, List, replicate, to_z, of_z, w64, arith, ap, subst, ◌∙◌}
 use Rattle.std.proofs.lemmas.Int.{to_z-of_z}
-use Rattle.std.specs.Prelude.{FitsSigned, nat_abs}
+use Rattle.std.specs.Prelude.{nat_abs}
 use Rattle.sk_base.specs.Arithmetic.{op_of}
 use Rattle.sk_base.specs.declared.number.Ty.TheVariants.{Int}
 use Rattle.sk_parser.specs.FirstForm.{Holes, AreFine}
 use Rattle.sk_cli.specs.declared.parts.Parts.{Parts}
 use Rattle.sk_cli.specs.Parts.{parts_in}
 use Rattle.sk_cli.specs.FirstProgram.{element_in}
-use Rattle.sk_cli.proofs.EagerFirst.{exact-op}
+use Rattle.sk_cli.proofs.FirstFunction.{exact-op}
 
 -- a number that is read as it is
 read : (n : ℕ) → n < 2 ^ 32 → to_z w64 (of_z w64 (pos n)) ≡ pos n

@@ -1,11 +1,10 @@
 -- The answer to a source of the first form.
 use Rattle.std.proofs.Common.{◌≡◌, ℕ, List, [], map, ap, ◌∙◌}
-use Rattle.std.specs.Fmt.{signed_decimal}
-use Rattle.sk_parser.specs.FirstForm.{IsFirst, IsFilled, first_tree}
+use Rattle.sk_parser.specs.FirstForm.{IsFirst}
 use Rattle.sk_tree.specs.declared.tree.Program.{Program}
 use Rattle.sk_tree.specs.Eager.{eager_of, EagerRun, Ending, End}
-use Rattle.sk_cli.specs.Answer.{Answer, Reading, Read, IsReading, answer_of, ended, statement_limit, source_limit}
-use Rattle.sk_cli.specs.FirstProgram.{IsFirstProgram, element_in}
+use Rattle.sk_cli.specs.Answer.{Read, answer_of, ended, statement_limit}
+use Rattle.sk_cli.specs.FirstProgram.{IsFirstProgram}
 use Rattle.sk_cli.proofs.EagerFirst.{eager-first}
 
 pub IsFirstProgram-first : (source : List ℕ) (program : Program) → IsFirst source program → IsFirstProgram program

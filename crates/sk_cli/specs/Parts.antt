@@ -1,5 +1,5 @@
 -- The numbers of a program of the first form.
-use Rattle.std.specs.Prelude.{◌≡◌, ℕ, ℤ, pos, nat_abs}
+use Rattle.std.specs.Prelude.{◌≡◌, pos}
 use Rattle.sk_parser.specs.FirstForm.{Holes, AreFine, op_of}
 use Rattle.sk_cli.specs.declared.parts.Parts.{Parts}
 

@@ -72,7 +72,7 @@ pub fn skepu<F: Files, O: Sink, E: Sink>(
     // A fault has its cause, and no fault is passed over.
     ensures read_fault { result ≡ 7 → IsSomeAnd (asked_of (map string_bytes words.now)) (λ name.
         IsReadFault name (F.holds files.old).reads (F.holds files.new).reads (O.holds out.old) (O.holds out.new)
-            (E.holds err.old) (E.holds err.new)) }
+        (E.holds err.old) (E.holds err.new)) }
     ensures write_fault { result ≡ 8 → IsWriteFault (O.holds out.old) (O.holds out.new) (E.holds err.old) (E.holds err.new) }
     ensures memory { result ≡ 9 → TookPrefix (codes "memory\n") (E.holds err.old) (E.holds err.new) }
     ensures none_passed_over { ((F.holds files.old).reads.count < (F.holds files.new).reads.count)

@@ -1,5 +1,5 @@
 -- Comments.
-use Rattle.std.proofs.Common.{◌≡◌, ◌≢◌, ℕ, zero, suc, ◌+◌, ◌-◌, ◌<◌, ◌≤◌, ◌⊎◌, inl, inr, Bool, true, false, ◌&&◌, List, [], ◌∷◌, ◌++◌, length, take, drop, slice_index, refl, ap, subst, sym, ◌∙◌, arith}
+use Rattle.std.proofs.Common.{◌≡◌, ℕ, suc, ◌+◌, ◌-◌, ◌<◌, ◌≤◌, ◌⊎◌, inl, inr, Bool, true, false, List, [], ◌∷◌, length, drop, refl, ap, subst, sym, ◌∙◌, arith}
 use Rattle.std.specs.Prelude.{Option, Some, None, ◌==◌, if◌then◌else◌, codes}
 use Rattle.std.specs.List.{starts_with}
 use Rattle.std.proofs.Math.Bool.{and-false}
@@ -31,10 +31,10 @@ pub record HasPassed (rest : List ℕ) (at : ℕ) : Type 0 where
 
 pub HasPassed-none : (rest : List ℕ) → HasPassed rest 0
 HasPassed-none rest = record { within = omega arith; onwards = none (comment_rest rest) }
-    where
-      none : (o : Option ℕ) → o ≡ further 0 o
-      none None = refl
-      none (Some bytes) = let e : 0 + bytes ≡ bytes = omega arith in rw e refl
+  where
+    none : (o : Option ℕ) → o ≡ further 0 o
+    none None = refl
+    none (Some bytes) = let e : 0 + bytes ≡ bytes = omega arith in rw e refl
 
 pub HasPassed-more : (rest part : List ℕ) (at : ℕ) → HasPassed rest at → at < length rest → part ≡ drop at rest → starts_with (λ a b. a == b) part (codes "*/") ≡ false → HasPassed rest (at + 1)
 HasPassed-more rest part at passed under same fails =
@@ -72,7 +72,7 @@ comment_rest-within (a ∷ b ∷ rest) n e =
     elim (ended_or_not (starts_with (λ a b. a == b) (a ∷ b ∷ rest) (codes "*/")) (comment_rest (b ∷ rest)) n next) [
       | inl two ↦ (omega arith, omega arith)
       | inr more ↦
-            let m = further-some (comment_rest (b ∷ rest)) n more in
-            let inner = comment_rest-within (b ∷ rest) m.0 m.1 in
-            (omega (arith, inner.0, m.2), omega (arith, inner.1, m.2))
+          let m = further-some (comment_rest (b ∷ rest)) n more in
+          let inner = comment_rest-within (b ∷ rest) m.0 m.1 in
+          (omega (arith, inner.0, m.2), omega (arith, inner.1, m.2))
     ]

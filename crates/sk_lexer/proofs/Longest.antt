@@ -1,6 +1,6 @@
 -- The longest front that spells something: one such front than which no longer one spells anything.
-use Rattle.std.proofs.Common.{◌≡◌, ◌≢◌, ℕ, zero, suc, ◌<◌, ◌≤◌, ◌⊎◌, inl, inr, subst, true, false, List, take, refl, arith}
-use Rattle.std.specs.Prelude.{Option, Some, None}
+use Rattle.std.proofs.Common.{◌≡◌, ℕ, zero, suc, ◌<◌, ◌≤◌, inl, inr, subst, List, take, refl, arith}
+use Rattle.std.specs.Prelude.{Some, None}
 use Rattle.std.proofs.lemmas.Bool.Decides.{eqb_tells}
 use Rattle.sk_tree.specs.Lexemes.{Lexeme, lexeme_of}
 use Rattle.sk_tree.specs.Tokens.{longest_of}
@@ -15,8 +15,8 @@ longest_of-found zero bytes rest lexeme some within spelled longest = absurd (om
 longest_of-found (suc most) bytes rest lexeme some within spelled longest =
     elim (eqb_tells bytes (suc most)) [
       | inl same ↦
-            let e : lexeme_of (take (suc most) rest) ≡ Some lexeme = subst (λ k. lexeme_of (take k rest) ≡ Some lexeme) same.1 spelled in
-            rw (e, longest_of) (rw same.1)
+          let e : lexeme_of (take (suc most) rest) ≡ Some lexeme = subst (λ k. lexeme_of (take k rest) ≡ Some lexeme) same.1 spelled in
+          rw (e, longest_of) (rw same.1)
       | inr other ↦
-            rw (longest (suc most) (omega arith) (omega arith), longest_of) (longest_of-found most bytes rest lexeme some (omega arith) spelled (λ k above under. longest k above (omega arith)))
+          rw (longest (suc most) (omega arith) (omega arith), longest_of) (longest_of-found most bytes rest lexeme some (omega arith) spelled (λ k above under. longest k above (omega arith)))
     ]

@@ -1,17 +1,17 @@
 -- The number at the front of a rest that begins with a digit.
-use Rattle.std.proofs.Common.{◌≡◌, ◌≢◌, ℕ, zero, suc, ◌+◌, ◌-◌, ◌^◌, ◌<◌, ◌≤◌, ◌⊎◌, inl, inr, min, Bool, true, false, ◌&&◌, ◌||◌, not, List, [], ◌∷◌, length, take, drop, slice_index, pos, refl, ap, subst, sym, ◌∙◌, arith}
+use Rattle.std.proofs.Common.{◌≡◌, ◌≢◌, ℕ, zero, suc, ◌+◌, ◌-◌, ◌^◌, ◌<◌, ◌≤◌, inl, inr, min, Bool, true, false, ◌&&◌, ◌||◌, not, List, [], ◌∷◌, length, take, drop, slice_index, pos, refl, ap, subst, sym, ◌∙◌, arith}
 use Rattle.std.specs.Prelude.{Option, Some, None, ◌==◌, nat_lt, if◌then◌else◌}
 use Rattle.std.specs.List.{list_all, prefix_len}
 use Rattle.std.specs.Option.{option_map}
-use Rattle.std.proofs.Math.Bool.{and-true, and-false}
+use Rattle.std.proofs.Math.Bool.{and-true}
 use Rattle.std.proofs.lemmas.Bool.{cases_Bool, ne_eqb}
 use Rattle.std.proofs.lemmas.Bool.Decides.{nat_tests, eqb_tells}
 use Rattle.std.proofs.lemmas.List.{length-take-le}
 use Rattle.std.proofs.lemmas.List.Sums.{prefix_len-le-length, prefix_len_passes}
 use Rattle.sk_base.specs.declared.number.Ty.TheVariants.{Int, Long}
 use Rattle.sk_tree.specs.declared.token.TokenKind.TheVariants.{Number}
-use Rattle.sk_tree.specs.Lexemes.{Lexeme, NumberLexeme, lexeme_of, is_letter, is_digit, is_hex_digit, is_word_byte, digits_value, after_zero, numeral_of, number_of, is_suffixed}
-use Rattle.sk_tree.specs.Tokens.{Piece, Found, Faulty, NoToken, Wide, judged, token_at, longest_of}
+use Rattle.sk_tree.specs.Lexemes.{NumberLexeme, lexeme_of, is_letter, is_digit, is_hex_digit, is_word_byte, digits_value, after_zero, numeral_of, number_of}
+use Rattle.sk_tree.specs.Tokens.{Found, Faulty, NoToken, Wide, judged, token_at, longest_of}
 use Rattle.sk_lexer.specs.Pieces.{is_suffix, IsLongestNumeral}
 use Rattle.sk_lexer.proofs.Longest.{longest_of-found}
 use Rattle.sk_lexer.proofs.Prefixes.{prefix_len-pass, list_all-prefix, list_all-longer}
@@ -42,11 +42,11 @@ judged-min : (n exact : ℕ) (suffixed : Bool) (after : List ℕ) → judged n (
 judged-min n exact suffixed after =
     elim (cases_Bool (nat_lt exact (2 ^ 63))) [
       | inl fits ↦
-            let e : min exact (2 ^ 64 - 1) ≡ exact = grind (arith, nat_tests) in
-            rw e refl
+          let e : min exact (2 ^ 64 - 1) ≡ exact = grind (arith, nat_tests) in
+          rw e refl
       | inr wide ↦
-            let e : nat_lt (min exact (2 ^ 64 - 1)) (2 ^ 63) ≡ false = grind (arith, nat_tests) in
-            rw (wide, e) refl
+          let e : nat_lt (min exact (2 ^ 64 - 1)) (2 ^ 63) ≡ false = grind (arith, nat_tests) in
+          rw (wide, e) refl
     ]
 
 -- ## The longest number without a suffix
@@ -77,11 +77,11 @@ decimal-front first tail value count nonzero counted same =
       last = rw one (is_hex_digit-digit (slice_index (first ∷ tail) count) (prefix_len_passes is_digit (first ∷ tail) count 0 (omega arith)));
       longest = longer first tail count ne counted;
     }
-    where
-      longer : (first : ℕ) (tail : List ℕ) (count : ℕ) → (first == 48) ≡ false → prefix_len is_digit (first ∷ tail) ≡ suc count → (k : ℕ) → suc count < k → k ≤ length (first ∷ tail) → numeral_of (take k (first ∷ tail)) ≡ None
-      longer first tail count ne counted zero above under = absurd (omega arith)
-      longer first tail count ne counted (suc k) above under =
-          numeral_of-no_decimal first (take k tail) ne (list_all-longer is_digit (first ∷ tail) (suc k) (omega arith) under)
+  where
+    longer : (first : ℕ) (tail : List ℕ) (count : ℕ) → (first == 48) ≡ false → prefix_len is_digit (first ∷ tail) ≡ suc count → (k : ℕ) → suc count < k → k ≤ length (first ∷ tail) → numeral_of (take k (first ∷ tail)) ≡ None
+    longer first tail count ne counted zero above under = absurd (omega arith)
+    longer first tail count ne counted (suc k) above under =
+        numeral_of-no_decimal first (take k tail) ne (list_all-longer is_digit (first ∷ tail) (suc k) (omega arith) under)
 
 pub decimal : (rest : List ℕ) (value : ℕ) → is_digit (slice_index rest 0) ≡ true → slice_index rest 0 ≢ 48 → value ≡ min (digits_value 10 (take (prefix_len is_digit rest) rest)) (2 ^ 64 - 1) → IsLongestNumeral rest (prefix_len is_digit rest) value
 decimal [] value digit nonzero same = cc
@@ -114,12 +114,12 @@ hexadecimal-front digits value count digit counted same =
       last = rw before (prefix_len_passes is_hex_digit digits (count - 1) 0 (omega arith));
       longest = longer digits count counted;
     })
-    where
-      longer : (digits : List ℕ) (count : ℕ) → count ≡ prefix_len is_hex_digit digits → (k : ℕ) → suc (suc count) < k → k ≤ length (48 ∷ 120 ∷ digits) → numeral_of (take k (48 ∷ 120 ∷ digits)) ≡ None
-      longer digits count counted zero above under = absurd (omega arith)
-      longer digits count counted (suc zero) above under = absurd (omega arith)
-      longer digits count counted (suc (suc k)) above under =
-          after_zero-no_hex digits k (omega arith) (omega arith) (list_all-longer is_hex_digit digits k (omega arith) (omega arith))
+  where
+    longer : (digits : List ℕ) (count : ℕ) → count ≡ prefix_len is_hex_digit digits → (k : ℕ) → suc (suc count) < k → k ≤ length (48 ∷ 120 ∷ digits) → numeral_of (take k (48 ∷ 120 ∷ digits)) ≡ None
+    longer digits count counted zero above under = absurd (omega arith)
+    longer digits count counted (suc zero) above under = absurd (omega arith)
+    longer digits count counted (suc (suc k)) above under =
+        after_zero-no_hex digits k (omega arith) (omega arith) (list_all-longer is_hex_digit digits k (omega arith) (omega arith))
 
 pub hexadecimal : (rest : List ℕ) (value count : ℕ) → slice_index rest 0 ≡ 48 → slice_index rest 1 ≡ 120 → is_hex_digit (slice_index rest 2) ≡ true → count ≡ prefix_len is_hex_digit (drop 2 rest) → value ≡ min (digits_value 16 (take count (drop 2 rest))) (2 ^ 64 - 1) → IsLongestNumeral rest (2 + count) value
 hexadecimal [] value count first second third counted same = absurd (omega arith)
@@ -136,21 +136,21 @@ zero-front tail no_hex = record {
   last = refl;
   longest = longer tail no_hex;
 }
-    where
-      longer : (tail : List ℕ) → (slice_index tail 0 == 120 && is_hex_digit (slice_index tail 1)) ≡ false → (k : ℕ) → 1 < k → k ≤ length (48 ∷ tail) → numeral_of (take k (48 ∷ tail)) ≡ None
-      longer tail no_hex zero above under = absurd (omega arith)
-      longer tail no_hex (suc zero) above under = absurd (omega arith)
-      longer [] no_hex (suc (suc k)) above under = absurd (omega arith)
-      longer (x ∷ []) no_hex (suc (suc zero)) above under = refl
-      longer (x ∷ []) no_hex (suc (suc (suc k))) above under = absurd (omega arith)
-      longer (x ∷ y ∷ tail) no_hex (suc (suc zero)) above under = refl
-      longer (x ∷ y ∷ tail) no_hex (suc (suc (suc k))) above under =
-          elim (cases_Bool (x == 120)) [
-            | inl same ↦
-                  let no_digit : is_hex_digit y ≡ false = rw same at no_hex in
-                  rw (same, no_digit) refl
-            | inr other ↦ rw other refl
-          ]
+  where
+    longer : (tail : List ℕ) → (slice_index tail 0 == 120 && is_hex_digit (slice_index tail 1)) ≡ false → (k : ℕ) → 1 < k → k ≤ length (48 ∷ tail) → numeral_of (take k (48 ∷ tail)) ≡ None
+    longer tail no_hex zero above under = absurd (omega arith)
+    longer tail no_hex (suc zero) above under = absurd (omega arith)
+    longer [] no_hex (suc (suc k)) above under = absurd (omega arith)
+    longer (x ∷ []) no_hex (suc (suc zero)) above under = refl
+    longer (x ∷ []) no_hex (suc (suc (suc k))) above under = absurd (omega arith)
+    longer (x ∷ y ∷ tail) no_hex (suc (suc zero)) above under = refl
+    longer (x ∷ y ∷ tail) no_hex (suc (suc (suc k))) above under =
+        elim (cases_Bool (x == 120)) [
+          | inl same ↦
+              let no_digit : is_hex_digit y ≡ false = rw same at no_hex in
+              rw (same, no_digit) refl
+          | inr other ↦ rw other refl
+        ]
 
 pub zero_numeral : (rest : List ℕ) → slice_index rest 0 ≡ 48 → (slice_index rest 1 == 120 && is_hex_digit (slice_index rest 2)) ≡ false → IsLongestNumeral rest 1 0
 zero_numeral [] first no_hex = absurd (omega arith)
@@ -163,10 +163,10 @@ is_suffix-hex_digit byte digit =
     elim (eqb_tells byte 76) [
       | inl same ↦ let none : is_hex_digit 76 ≡ true = subst (λ b. is_hex_digit b ≡ true) same.1 digit in cc
       | inr other ↦
-            elim (eqb_tells byte 108) [
-              | inl same ↦ let none : is_hex_digit 108 ≡ true = subst (λ b. is_hex_digit b ≡ true) same.1 digit in cc
-              | inr neither ↦ rw (other.0, neither.0) refl
-            ]
+          elim (eqb_tells byte 108) [
+            | inl same ↦ let none : is_hex_digit 108 ≡ true = subst (λ b. is_hex_digit b ≡ true) same.1 digit in cc
+            | inr neither ↦ rw (other.0, neither.0) refl
+          ]
     ]
 
 slice_index-take : (rest : List ℕ) (k : ℕ) → suc k ≤ length rest → slice_index (take (suc k) rest) k ≡ slice_index rest k
@@ -205,11 +205,11 @@ number_of-longer rest n value numeral k above under ends =
     elim (eqb_tells k n) [
       | inl same ↦ rw (number_of-front rest k under, ends same.1, no_further) refl
       | inr other ↦
-            let none : numeral_of (take k rest) ≡ None = numeral.longest k (omega (arith, other.1)) (omega arith) in
-            elim (cases_Bool (is_suffix (slice_index rest k))) [
-              | inl suffix ↦ rw (number_of-front rest k under, suffix, none) refl
-              | inr no_suffix ↦ rw (number_of-front rest k under, no_suffix, no_further) refl
-            ]
+          let none : numeral_of (take k rest) ≡ None = numeral.longest k (omega (arith, other.1)) (omega arith) in
+          elim (cases_Bool (is_suffix (slice_index rest k))) [
+            | inl suffix ↦ rw (number_of-front rest k under, suffix, none) refl
+            | inr no_suffix ↦ rw (number_of-front rest k under, no_suffix, no_further) refl
+          ]
     ]
 
 longest_of-suffixed : (rest : List ℕ) (n value exact : ℕ) → is_digit (slice_index rest 0) ≡ true → IsLongestNumeral rest n value → numeral_of (take n rest) ≡ Some exact → is_suffix (slice_index rest n) ≡ true → longest_of (length rest) rest ≡ Some (suc n, NumberLexeme exact true)
@@ -217,11 +217,11 @@ longest_of-suffixed rest n value exact digit numeral spelled suffix =
     let within = suffix_within rest n suffix in
     let here : lexeme_of (take (suc n) rest) ≡ Some (NumberLexeme exact true) = rw (lexeme_of-number rest digit n, number_of-front rest n within, suffix, spelled) refl in
     longest_of-found (length rest) (suc n) rest (NumberLexeme exact true) (omega arith) within here (longer rest n value digit numeral)
-    where
-      longer : (rest : List ℕ) (n value : ℕ) → is_digit (slice_index rest 0) ≡ true → IsLongestNumeral rest n value → (k : ℕ) → suc n < k → k ≤ length rest → lexeme_of (take k rest) ≡ None
-      longer rest n value digit numeral zero above under = absurd (omega arith)
-      longer rest n value digit numeral (suc k) above under =
-          lexeme_of-number rest digit k ∙ number_of-longer rest n value numeral k (omega arith) under (λ same. absurd (omega arith))
+  where
+    longer : (rest : List ℕ) (n value : ℕ) → is_digit (slice_index rest 0) ≡ true → IsLongestNumeral rest n value → (k : ℕ) → suc n < k → k ≤ length rest → lexeme_of (take k rest) ≡ None
+    longer rest n value digit numeral zero above under = absurd (omega arith)
+    longer rest n value digit numeral (suc k) above under =
+        lexeme_of-number rest digit k ∙ number_of-longer rest n value numeral k (omega arith) under (λ same. absurd (omega arith))
 
 longest_of-plain : (rest : List ℕ) (n value exact : ℕ) → is_digit (slice_index rest 0) ≡ true → IsLongestNumeral rest (suc n) value → numeral_of (take (suc n) rest) ≡ Some exact → is_suffix (slice_index rest (suc n)) ≡ false → longest_of (length rest) rest ≡ Some (suc n, NumberLexeme exact false)
 longest_of-plain rest n value exact digit numeral spelled no_suffix =
@@ -229,11 +229,11 @@ longest_of-plain rest n value exact digit numeral spelled no_suffix =
     let ends : is_suffix (slice_index rest n) ≡ false = is_suffix-hex_digit (slice_index rest n) (rw one at numeral.last) in
     let here : lexeme_of (take (suc n) rest) ≡ Some (NumberLexeme exact false) = rw (lexeme_of-number rest digit n, number_of-front rest n numeral.within, ends, spelled) refl in
     longest_of-found (length rest) (suc n) rest (NumberLexeme exact false) (omega arith) numeral.within here (longer rest n value digit numeral no_suffix)
-    where
-      longer : (rest : List ℕ) (n value : ℕ) → is_digit (slice_index rest 0) ≡ true → IsLongestNumeral rest (suc n) value → is_suffix (slice_index rest (suc n)) ≡ false → (k : ℕ) → suc n < k → k ≤ length rest → lexeme_of (take k rest) ≡ None
-      longer rest n value digit numeral no_suffix zero above under = absurd (omega arith)
-      longer rest n value digit numeral no_suffix (suc k) above under =
-          lexeme_of-number rest digit k ∙ number_of-longer rest (suc n) value numeral k (omega arith) under (λ same. subst (λ j. is_suffix (slice_index rest j) ≡ false) (sym same) no_suffix)
+  where
+    longer : (rest : List ℕ) (n value : ℕ) → is_digit (slice_index rest 0) ≡ true → IsLongestNumeral rest (suc n) value → is_suffix (slice_index rest (suc n)) ≡ false → (k : ℕ) → suc n < k → k ≤ length rest → lexeme_of (take k rest) ≡ None
+    longer rest n value digit numeral no_suffix zero above under = absurd (omega arith)
+    longer rest n value digit numeral no_suffix (suc k) above under =
+        lexeme_of-number rest digit k ∙ number_of-longer rest (suc n) value numeral k (omega arith) under (λ same. subst (λ j. is_suffix (slice_index rest j) ≡ false) (sym same) no_suffix)
 
 -- ## The token
 

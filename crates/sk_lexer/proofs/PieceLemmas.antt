@@ -1,13 +1,12 @@
 -- What stands at the front of a rest, and how many bytes it has.
-use Rattle.std.proofs.Common.{◌≡◌, ◌≢◌, ℕ, zero, suc, ◌+◌, ◌-◌, ◌<◌, ◌≤◌, ◌⊎◌, inl, inr, Bool, true, false, ◌&&◌, not, ◌||◌, ◌^◌, pos, List, [], ◌∷◌, ◌++◌, length, take, drop, slice_index, refl, ap, subst, sym, ◌∙◌, arith}
+use Rattle.std.proofs.Common.{◌≡◌, ℕ, zero, suc, ◌+◌, ◌<◌, ◌≤◌, ◌⊎◌, inl, inr, Bool, true, false, ◌&&◌, not, ◌||◌, ◌^◌, pos, List, [], ◌∷◌, length, take, drop, slice_index, refl, ap, subst, sym, arith}
 use Rattle.std.specs.Prelude.{Option, Some, None, ◌==◌, if◌then◌else◌, codes, nat_lt}
 use Rattle.std.specs.List.{starts_with, list_all}
-use Rattle.std.proofs.lemmas.Bool.{cases_Bool}
 use Rattle.std.proofs.lemmas.Bool.Decides.{nat_tests}
 use Rattle.std.proofs.lemmas.List.{length-drop}
 use Rattle.std.proofs.lemmas.List.Sums.{prefix_len-le-length}
 use Rattle.sk_base.specs.declared.number.Ty.TheVariants.{Int, Long}
-use Rattle.sk_tree.specs.declared.token.TokenKind.TheVariants.{Word, Number, Text, Sign}
+use Rattle.sk_tree.specs.declared.token.TokenKind.TheVariants.{Word, Number, Text}
 use Rattle.sk_tree.specs.Lexemes.{Lexeme, WordLexeme, NumberLexeme, TextLexeme, SignLexeme, lexeme_of, is_blank, is_word_byte}
 use Rattle.sk_tree.specs.Tokens.{Piece, Passed, Found, Faulty, NoToken, Wide, LongName, line_rest, comment_rest, longest_of, judged, token_at, piece_at}
 use Rattle.sk_lexer.proofs.Blanks.{comment_rest-within}
@@ -41,10 +40,10 @@ HasBytes (Faulty fault) most = Unit {0}
 longest_of-step : (o : Option Lexeme) (most : ℕ) (rest : List ℕ) (n : ℕ) (lexeme : Lexeme) → ◌≡◌ {A = Option (ℕ × Lexeme)} (elim o [ Some spelled ↦ Some (suc most, spelled) | None ↦ longest_of most rest ]) (Some (n, lexeme)) → (suc most ≡ n) ⊎ (longest_of most rest ≡ Some (n, lexeme))
 longest_of-step None most rest n lexeme e = inr e
 longest_of-step (Some spelled) most rest n lexeme e = inl (ap bytes e)
-    where
-      bytes : Option (ℕ × Lexeme) → ℕ
-      bytes (Some found) = found.0
-      bytes None = 0
+  where
+    bytes : Option (ℕ × Lexeme) → ℕ
+    bytes (Some found) = found.0
+    bytes None = 0
 
 longest_of-within : (most : ℕ) (rest : List ℕ) (n : ℕ) (lexeme : Lexeme) → longest_of most rest ≡ Some (n, lexeme) → (0 < n) × (n ≤ most)
 longest_of-within zero rest n lexeme found = cc
@@ -52,8 +51,8 @@ longest_of-within (suc most) rest n lexeme found =
     elim (longest_of-step (lexeme_of (take (suc most) rest)) most rest n lexeme found) [
       | inl same ↦ (omega arith, omega arith)
       | inr fewer ↦
-            let within = longest_of-within most rest n lexeme fewer in
-            (within.0, omega (arith, within.1))
+          let within = longest_of-within most rest n lexeme fewer in
+          (within.0, omega (arith, within.1))
     ]
 
 HasBytes-if : (test : Bool) (one other : Piece) (most : ℕ) → (test ≡ true → HasBytes one most) → (test ≡ false → HasBytes other most) → HasBytes (if test then one else other) most
@@ -71,10 +70,10 @@ judged-within n (SignLexeme sign) after most within = within
 token_at-within : (rest : List ℕ) → HasBytes (token_at rest) (length rest)
 unfolding token_at
 token_at-within rest = found_within (longest_of (length rest) rest) refl
-    where
-      found_within : (o : Option (ℕ × Lexeme)) → longest_of (length rest) rest ≡ o → HasBytes (elim o [ Some found ↦ judged found.0 found.1 (drop found.0 rest) | None ↦ Faulty NoToken ]) (length rest)
-      found_within None e = tt
-      found_within (Some found) e = judged-within found.0 found.1 (drop found.0 rest) (length rest) (longest_of-within (length rest) rest found.0 found.1 e)
+  where
+    found_within : (o : Option (ℕ × Lexeme)) → longest_of (length rest) rest ≡ o → HasBytes (elim o [ Some found ↦ judged found.0 found.1 (drop found.0 rest) | None ↦ Faulty NoToken ]) (length rest)
+    found_within None e = tt
+    found_within (Some found) e = judged-within found.0 found.1 (drop found.0 rest) (length rest) (longest_of-within (length rest) rest found.0 found.1 e)
 
 line_rest-within : (rest : List ℕ) → 0 < length rest → is_blank (slice_index rest 0) ≡ false → (0 < line_rest rest) × (line_rest rest ≤ length rest)
 line_rest-within [] some other = absurd (omega arith)
@@ -99,5 +98,5 @@ piece_at-within begins_line rest some =
     (λ other. HasBytes-if (begins rest (codes "//")) (Passed (line_rest rest)) _ (length rest) (λ _. line_rest-within rest some other)
     (λ _. HasBytes-if (begins rest (codes "/*")) (commented (comment_rest (drop 2 rest))) _ (length rest) (λ _. commented-within rest (comment_rest (drop 2 rest)) refl)
     (λ _. HasBytes-if (slice_index rest 0 == 35) (if begins rest (codes "#include") && begins_line then Passed (line_rest rest) else Faulty NoToken) (token_at rest) (length rest)
-        (λ _. HasBytes-if (begins rest (codes "#include") && begins_line) (Passed (line_rest rest)) (Faulty NoToken) (length rest) (λ _. line_rest-within rest some other) (λ _. tt))
-        (λ _. token_at-within rest)))))
+    (λ _. HasBytes-if (begins rest (codes "#include") && begins_line) (Passed (line_rest rest)) (Faulty NoToken) (length rest) (λ _. line_rest-within rest some other) (λ _. tt))
+    (λ _. token_at-within rest)))))

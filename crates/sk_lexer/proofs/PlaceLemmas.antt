@@ -1,10 +1,10 @@
 -- The place after one byte more.
-use Rattle.std.proofs.Common.{◌≡◌, ◌≢◌, ℕ, zero, suc, ◌+◌, ◌<◌, ◌≤◌, ◌⊎◌, inl, inr, Bool, true, false, ◌&&◌, not, List, [], ◌∷◌, ◌++◌, length, take, drop, reverse, slice_index, refl, ap, subst, sym, ◌∙◌, arith, append_assoc}
+use Rattle.std.proofs.Common.{◌≡◌, ℕ, suc, ◌+◌, ◌<◌, ◌≤◌, inl, inr, Bool, true, false, ◌&&◌, not, List, [], ◌∷◌, ◌++◌, length, take, reverse, slice_index, refl, ap, sym, ◌∙◌, arith, append_assoc}
 use Rattle.std.specs.Prelude.{◌==◌, if◌then◌else◌, count_by, fold}
 use Rattle.std.specs.List.{list_all, take_while}
 use Rattle.std.proofs.lemmas.Bool.{cases_Bool}
 use Rattle.std.proofs.lemmas.List.{length-append, reverse-append, append-nil}
-use Rattle.std.proofs.lemmas.List.Sums.{take_while-cons, count_by-le-length, fold-append}
+use Rattle.std.proofs.lemmas.List.Sums.{take_while-cons, fold-append}
 use Rattle.std.proofs.Math.Seq.{take-suc}
 use Rattle.sk_tree.specs.Lexemes.{is_blank}
 use Rattle.sk_tree.specs.Tokens.{line_after, is_line_start}
@@ -41,18 +41,18 @@ place_after-more before byte =
     let other : Place = record { at = length before + 1; line = line_after before; begins_line = is_blank byte && is_line_start before } in
     elim (cases_Bool (byte == 10)) [
       | inl is ↦
-            let line : line_after (before ++ (byte ∷ [])) ≡ line_after before + 1 = ap (λ n. n + 1) (count ∙ ap (λ t. count_by (λ byte. byte == 10) before + (if t then 1 else 0)) is) in
-            let begins : is_line_start (before ++ (byte ∷ [])) ≡ true = is_line_start-push false before byte (ap not is) in
-            same at line begins ∙ if-true (byte == 10) feed other is
+          let line : line_after (before ++ (byte ∷ [])) ≡ line_after before + 1 = ap (λ n. n + 1) (count ∙ ap (λ t. count_by (λ byte. byte == 10) before + (if t then 1 else 0)) is) in
+          let begins : is_line_start (before ++ (byte ∷ [])) ≡ true = is_line_start-push false before byte (ap not is) in
+          same at line begins ∙ if-true (byte == 10) feed other is
       | inr is ↦
-            let none : count_by (λ byte. byte == 10) before + 0 ≡ count_by (λ byte. byte == 10) before = omega arith in
-            let line : line_after (before ++ (byte ∷ [])) ≡ line_after before = ap (λ n. n + 1) (count ∙ ap (λ t. count_by (λ byte. byte == 10) before + (if t then 1 else 0)) is ∙ none) in
-            let begins : is_line_start (before ++ (byte ∷ [])) ≡ (is_blank byte && is_line_start before) = is_line_start-push true before byte (ap not is) in
-            same at line begins ∙ if-false (byte == 10) feed other is
+          let none : count_by (λ byte. byte == 10) before + 0 ≡ count_by (λ byte. byte == 10) before = omega arith in
+          let line : line_after (before ++ (byte ∷ [])) ≡ line_after before = ap (λ n. n + 1) (count ∙ ap (λ t. count_by (λ byte. byte == 10) before + (if t then 1 else 0)) is ∙ none) in
+          let begins : is_line_start (before ++ (byte ∷ [])) ≡ (is_blank byte && is_line_start before) = is_line_start-push true before byte (ap not is) in
+          same at line begins ∙ if-false (byte == 10) feed other is
     ]
-    where
-      same : {a b c d : ℕ} {e f : Bool} → a ≡ b → c ≡ d → e ≡ f → ◌≡◌ {A = Place} (record { at = a; line = c; begins_line = e }) (record { at = b; line = d; begins_line = f })
-      same at line begins = λ i. record { at = at i; line = line i; begins_line = begins i }
+  where
+    same : {a b c d : ℕ} {e f : Bool} → a ≡ b → c ≡ d → e ≡ f → ◌≡◌ {A = Place} (record { at = a; line = c; begins_line = e }) (record { at = b; line = d; begins_line = f })
+    same at line begins = λ i. record { at = at i; line = line i; begins_line = begins i }
 
 pub place_after-append : (before bytes : List ℕ) → fold place_then (place_after before) bytes ≡ place_after (before ++ bytes)
 place_after-append before [] = ap place_after (sym (append-nil before))

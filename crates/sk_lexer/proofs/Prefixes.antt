@@ -1,6 +1,5 @@
 -- The elements that pass from the front on, and longer fronts.
-use Rattle.std.proofs.Common.{◌≡◌, ℕ, zero, suc, ◌+◌, ◌<◌, ◌≤◌, ◌⊎◌, inl, inr, Bool, true, false, ◌&&◌, List, [], ◌∷◌, length, take, refl, arith}
-use Rattle.std.proofs.Math.Bool.{and-false}
+use Rattle.std.proofs.Common.{◌≡◌, ℕ, zero, suc, ◌<◌, ◌≤◌, inl, inr, Bool, true, false, List, [], ◌∷◌, length, take, refl, arith}
 use Rattle.std.proofs.lemmas.Bool.{cases_Bool}
 use Rattle.std.proofs.lemmas.List.Folds.{length-prefix_len}
 use Rattle.std.specs.List.{list_all, take_while, prefix_len}
@@ -28,7 +27,7 @@ list_all-longer p (x ∷ xs) zero longer within = absurd (omega arith)
 list_all-longer p (x ∷ xs) (suc k) longer within =
     elim (cases_Bool (p x)) [
       | inl passes ↦
-            let e = prefix_len-pass p x xs passes in
-            rw passes (list_all-longer p xs k (omega (arith, e)) (omega arith))
+          let e = prefix_len-pass p x xs passes in
+          rw passes (list_all-longer p xs k (omega (arith, e)) (omega arith))
       | inr fails ↦ rw fails refl
     ]

@@ -4,7 +4,7 @@ use Rattle.std.proofs.lemmas.List.{length-drop, append-nil, drop_all, length-tak
 use Rattle.sk_tree.specs.declared.token.Token.{Token}
 use Rattle.sk_tree.specs.declared.token.TokenKind.{TokenKind}
 use Rattle.std.specs.Prelude.{fold}
-use Rattle.sk_tree.specs.Tokens.{TokenFault, Piece, Passed, Found, Faulty, line_after, is_line_start, piece_at, with_token, tokens_from, tokens_of}
+use Rattle.sk_tree.specs.Tokens.{TokenFault, Passed, Found, Faulty, line_after, is_line_start, piece_at, with_token, tokens_from, tokens_of}
 use Rattle.sk_lexer.specs.declared.piece.Piece as code
 use Rattle.sk_lexer.specs.declared.place.Place.{Place}
 use Rattle.sk_lexer.specs.Pieces.{piece_of}
@@ -36,10 +36,10 @@ onto-with_token tokens token (Err fault) = refl
 take-more : (text : List ℕ) (at n : ℕ) → take at text ++ take n (drop at text) ≡ take (at + n) text
 take-more text zero n = let e : 0 + n ≡ n = omega arith in rw e refl
 take-more [] (suc at) n = let e : suc at + n ≡ suc (at + n) = omega arith in rw e (take-none n)
-    where
-      take-none : (n : ℕ) → take {A = ℕ} n [] ≡ []
-      take-none zero = refl
-      take-none (suc n) = refl
+  where
+    take-none : (n : ℕ) → take {A = ℕ} n [] ≡ []
+    take-none zero = refl
+    take-none (suc n) = refl
 take-more (x ∷ text) (suc at) n = let e : suc at + n ≡ suc (at + n) = omega arith in rw e (ap (λ xs. x ∷ xs) (take-more text at n))
 
 tokens_from-end : (pieces : ℕ) (before : List ℕ) → tokens_from pieces before [] ≡ Ok []

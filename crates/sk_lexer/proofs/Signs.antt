@@ -1,6 +1,6 @@
 -- Bytes that spell no sign, and the longest sign at the front of a rest.
-use Rattle.std.proofs.Common.{◌≡◌, ◌≢◌, ℕ, zero, suc, ◌<◌, ◌≤◌, ◌⊎◌, inl, inr, Bool, true, false, ◌&&◌, List, [], ◌∷◌, length, take, drop, slice_index, refl, ap, subst, sym, ◌∙◌, arith}
-use Rattle.std.specs.Prelude.{Option, Some, None, ◌==◌, find, nat_le, if◌then◌else◌}
+use Rattle.std.proofs.Common.{◌≡◌, ◌≢◌, ℕ, zero, suc, ◌<◌, ◌≤◌, ◌⊎◌, inl, inr, Bool, true, false, List, [], ◌∷◌, length, take, slice_index, refl, ap, subst, ◌∙◌, arith}
+use Rattle.std.specs.Prelude.{Some, None, find, nat_le}
 use Rattle.std.specs.List.{list_all}
 use Rattle.std.proofs.lemmas.List.{length-take-le}
 use Rattle.std.specs.Option.{option_map}
@@ -8,8 +8,8 @@ use Rattle.std.proofs.lemmas.Bool.{cases_Bool, ne_eqb, leb-true, leb-false}
 use Rattle.std.proofs.lemmas.Bool.Decides.{eqb_tells, nat_tests}
 use Rattle.sk_tree.specs.declared.token.Sign.{Sign}
 use Rattle.sk_tree.specs.declared.token.TokenKind.TheVariants as kinds
-use Rattle.sk_tree.specs.Lexemes.{Lexeme, SignLexeme, lexeme_of, is_letter, is_digit, same_bytes, sign_of, signs}
-use Rattle.sk_tree.specs.Tokens.{Piece, Found, Faulty, NoToken, token_at, longest_of}
+use Rattle.sk_tree.specs.Lexemes.{SignLexeme, lexeme_of, is_letter, is_digit, same_bytes, sign_of, signs}
+use Rattle.sk_tree.specs.Tokens.{Found, Faulty, NoToken, token_at, longest_of}
 use Rattle.sk_lexer.specs.Pieces.{front_sign}
 use Rattle.sk_lexer.proofs.Longest.{longest_of-found, longest_of-none}
 
@@ -21,12 +21,12 @@ same_bytes-true (x ∷ xs) [] same = cc
 same_bytes-true (x ∷ xs) (y ∷ ys) same =
     elim (eqb_tells x y) [
       | inl equal ↦
-            let rest : same_bytes xs ys ≡ true = rw equal.0 at same in
-            let e = same_bytes-true xs ys rest in
-            cc (equal.1)
+          let rest : same_bytes xs ys ≡ true = rw equal.0 at same in
+          let e = same_bytes-true xs ys rest in
+          cc (equal.1)
       | inr unequal ↦
-            let none : false ≡ true = rw unequal.0 at same in
-            cc
+          let none : false ≡ true = rw unequal.0 at same in
+          cc
     ]
 
 no_entry : (passes : List ℕ → Bool) (bytes : List ℕ) (table : List (List ℕ × Sign)) → list_all (λ entry. passes entry.0) table ≡ true → passes bytes ≡ false → find (λ entry. same_bytes entry.0 bytes) table ≡ None
@@ -34,18 +34,18 @@ no_entry passes bytes [] all fails = refl
 no_entry passes bytes (entry ∷ table) all fails =
     elim (cases_Bool (same_bytes entry.0 bytes)) [
       | inl same ↦
-            let here : passes entry.0 ≡ false = ap passes (same_bytes-true entry.0 bytes same) ∙ fails in
-            let none : false ≡ true = rw here at all in
-            cc
+          let here : passes entry.0 ≡ false = ap passes (same_bytes-true entry.0 bytes same) ∙ fails in
+          let none : false ≡ true = rw here at all in
+          cc
       | inr other ↦
-            elim (cases_Bool (passes entry.0)) [
-              | inl here ↦
-                    let rest : list_all (λ entry. passes entry.0) table ≡ true = rw here at all in
-                    rw (other, find) (no_entry passes bytes table rest fails)
-              | inr here ↦
-                    let none : false ≡ true = rw here at all in
-                    cc
-            ]
+          elim (cases_Bool (passes entry.0)) [
+            | inl here ↦
+                let rest : list_all (λ entry. passes entry.0) table ≡ true = rw here at all in
+                rw (other, find) (no_entry passes bytes table rest fails)
+            | inr here ↦
+                let none : false ≡ true = rw here at all in
+                cc
+          ]
     ]
 
 -- no sign is spelled by bytes that fail a test which each sign's spelling passes
@@ -111,9 +111,9 @@ front_sign-within k rest sign spelled =
     elim (le_or_lt k (length rest)) [
       | inl within ↦ within
       | inr beyond ↦
-            let e : nat_le k (length rest) ≡ false = grind (arith, nat_tests) in
-            let none : None ≡ Some sign = rw (e, front_sign) at spelled in
-            cc
+          let e : nat_le k (length rest) ≡ false = grind (arith, nat_tests) in
+          let none : None ≡ Some sign = rw (e, front_sign) at spelled in
+          cc
     ]
 
 longest_of-sign : (rest : List ℕ) → BeginsSign rest → (k : ℕ) (sign : Sign) → front_sign (suc k) rest ≡ Some sign → ((j : ℕ) → k < j → j ≤ 2 → front_sign (suc j) rest ≡ None) → longest_of (length rest) rest ≡ Some (suc k, SignLexeme sign)
@@ -121,10 +121,10 @@ longest_of-sign rest begins k sign spelled longest =
     let within = front_sign-within (suc k) rest sign spelled in
     let here : lexeme_of (take (suc k) rest) ≡ Some (SignLexeme sign) = rw (lexeme_of-front rest begins k within, spelled) refl in
     longest_of-found (length rest) (suc k) rest (SignLexeme sign) (omega arith) within here (longer rest begins k longest)
-    where
-      longer : (rest : List ℕ) → BeginsSign rest → (k : ℕ) → ((j : ℕ) → k < j → j ≤ 2 → front_sign (suc j) rest ≡ None) → (j : ℕ) → suc k < j → j ≤ length rest → lexeme_of (take j rest) ≡ None
-      longer rest begins k longest zero above under = absurd (omega arith)
-      longer rest begins k longest (suc j) above under = lexeme_of-none rest begins j under (λ short. longest j (omega arith) short)
+  where
+    longer : (rest : List ℕ) → BeginsSign rest → (k : ℕ) → ((j : ℕ) → k < j → j ≤ 2 → front_sign (suc j) rest ≡ None) → (j : ℕ) → suc k < j → j ≤ length rest → lexeme_of (take j rest) ≡ None
+    longer rest begins k longest zero above under = absurd (omega arith)
+    longer rest begins k longest (suc j) above under = lexeme_of-none rest begins j under (λ short. longest j (omega arith) short)
 
 token_at-found : (rest : List ℕ) → BeginsSign rest → (k : ℕ) (sign : Sign) → front_sign (suc k) rest ≡ Some sign → ((j : ℕ) → k < j → j ≤ 2 → front_sign (suc j) rest ≡ None) → token_at rest ≡ Found (suc k) (kinds.Sign sign)
 unfolding token_at
@@ -158,8 +158,8 @@ pub token_at-no_sign : (rest : List ℕ) → BeginsSign rest → front_sign 3 re
 unfolding token_at
 token_at-no_sign rest begins three two one =
     rw (longest_of-none (length rest) rest (none rest begins three two (front_sign-one rest begins.some ∙ one)), token_at) refl
-    where
-      none : (rest : List ℕ) → BeginsSign rest → front_sign 3 rest ≡ None → front_sign 2 rest ≡ None → front_sign 1 rest ≡ None → (j : ℕ) → 0 < j → j ≤ length rest → lexeme_of (take j rest) ≡ None
-      none rest begins three two one zero above under = absurd (omega arith)
-      none rest begins three two one (suc zero) above under = lexeme_of-none rest begins 0 under (λ short. one)
-      none rest begins three two one (suc (suc j)) above under = lexeme_of-none rest begins (suc j) under (λ short. longer_than_one rest three two (suc j) (omega arith) short)
+  where
+    none : (rest : List ℕ) → BeginsSign rest → front_sign 3 rest ≡ None → front_sign 2 rest ≡ None → front_sign 1 rest ≡ None → (j : ℕ) → 0 < j → j ≤ length rest → lexeme_of (take j rest) ≡ None
+    none rest begins three two one zero above under = absurd (omega arith)
+    none rest begins three two one (suc zero) above under = lexeme_of-none rest begins 0 under (λ short. one)
+    none rest begins three two one (suc (suc j)) above under = lexeme_of-none rest begins (suc j) under (λ short. longer_than_one rest three two (suc j) (omega arith) short)

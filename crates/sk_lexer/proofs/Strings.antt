@@ -1,13 +1,13 @@
 -- The string at the front of a rest that begins with a quote.
-use Rattle.std.proofs.Common.{◌≡◌, ◌≢◌, ℕ, zero, suc, ◌+◌, ◌-◌, ◌<◌, ◌≤◌, ◌⊎◌, inl, inr, Bool, true, false, List, [], ◌∷◌, ◌++◌, length, take, drop, slice_index, refl, ap, subst, sym, ◌∙◌, arith, append_assoc}
+use Rattle.std.proofs.Common.{◌≡◌, ℕ, zero, suc, ◌+◌, ◌-◌, ◌<◌, ◌≤◌, inl, inr, true, false, List, [], ◌∷◌, ◌++◌, length, take, drop, slice_index, refl, ap, subst, sym, ◌∙◌, arith, append_assoc}
 use Rattle.std.specs.Prelude.{Option, Some, None, ◌==◌, if◌then◌else◌, nat_le, IfSome}
 use Rattle.std.specs.Option.{option_map, option_and_then}
 use Rattle.std.proofs.lemmas.Bool.{cases_Bool, ne_eqb, eq-eqb}
 use Rattle.std.proofs.lemmas.Bool.Decides.{nat_tests, eqb_tells}
 use Rattle.std.proofs.lemmas.List.{length-drop, append-nil, drop_all}
 use Rattle.sk_tree.specs.declared.token.TokenKind.TheVariants.{Text}
-use Rattle.sk_tree.specs.Lexemes.{Lexeme, TextLexeme, lexeme_of, escape_of, is_from_to, string_rest_of}
-use Rattle.sk_tree.specs.Tokens.{Piece, Found, Faulty, NoToken, LongName, token_at, longest_of}
+use Rattle.sk_tree.specs.Lexemes.{TextLexeme, lexeme_of, escape_of, is_from_to, string_rest_of}
+use Rattle.sk_tree.specs.Tokens.{Found, Faulty, NoToken, LongName, token_at, longest_of}
 use Rattle.sk_lexer.specs.declared.string.Front.{Front}
 use Rattle.sk_lexer.specs.declared.string.Front.TheVariants.{Quote, Stands, Foreign}
 use Rattle.sk_lexer.specs.declared.string.Closed.{Closed}
@@ -52,11 +52,11 @@ text_at-onward k j n byte None same = refl
 text_at-onward k j n byte (Some closed) same =
     elim (eqb_tells k closed.0) [
       | inl equal ↦
-            let e : (j == n + closed.0) ≡ true = eq-eqb j (n + closed.0) (omega (arith, equal.1)) in
-            rw (e, equal.0) refl
+          let e : (j == n + closed.0) ≡ true = eq-eqb j (n + closed.0) (omega (arith, equal.1)) in
+          rw (e, equal.0) refl
       | inr other ↦
-            let e : (j == n + closed.0) ≡ false = ne_eqb j (n + closed.0) (λ h. other.1 (omega arith)) in
-            rw (e, other.0) refl
+          let e : (j == n + closed.0) ≡ false = ne_eqb j (n + closed.0) (λ h. other.1 (omega arith)) in
+          rw (e, other.0) refl
     ]
 
 one_past : (k : ℕ) → (suc (suc k) == 1) ≡ false
@@ -83,46 +83,46 @@ string_rest_of-take (byte ∷ next ∷ rest) zero within =
     elim (cases_Bool (byte == 34)) [
       | inl quote ↦ rw quote refl
       | inr other ↦
-            elim (cases_Bool (byte == 92)) [
-              | inl pair ↦ rw (other, pair) (sym (text_at-pair_below 0 (escape_of next) (closing rest) (omega arith)))
-              | inr single ↦
-                    elim (cases_Bool (is_from_to 32 126 byte)) [
-                      | inl printable ↦ rw (other, single, printable) (sym (text_at-below 0 1 (byte ∷ []) (closing (next ∷ rest)) (omega arith)))
-                      | inr foreign ↦ rw (other, single, foreign) refl
-                    ]
-            ]
+          elim (cases_Bool (byte == 92)) [
+            | inl pair ↦ rw (other, pair) (sym (text_at-pair_below 0 (escape_of next) (closing rest) (omega arith)))
+            | inr single ↦
+                elim (cases_Bool (is_from_to 32 126 byte)) [
+                  | inl printable ↦ rw (other, single, printable) (sym (text_at-below 0 1 (byte ∷ []) (closing (next ∷ rest)) (omega arith)))
+                  | inr foreign ↦ rw (other, single, foreign) refl
+                ]
+          ]
     ]
 string_rest_of-take (byte ∷ next ∷ rest) (suc zero) within =
     elim (cases_Bool (byte == 34)) [
       | inl quote ↦ rw quote refl
       | inr other ↦
-            elim (cases_Bool (byte == 92)) [
-              | inl pair ↦ rw (other, pair) (sym (text_at-pair_below 1 (escape_of next) (closing rest) (omega arith)))
-              | inr single ↦
-                    elim (cases_Bool (is_from_to 32 126 byte)) [
-                      | inl printable ↦
-                            let none = string_rest_of-take (next ∷ rest) zero (omega arith) in
-                            rw (other, single, printable, text_at-onward 0 1 1 byte (closing (next ∷ rest)) (omega arith), ← none) refl
-                      | inr foreign ↦ rw (other, single, foreign) refl
-                    ]
-            ]
+          elim (cases_Bool (byte == 92)) [
+            | inl pair ↦ rw (other, pair) (sym (text_at-pair_below 1 (escape_of next) (closing rest) (omega arith)))
+            | inr single ↦
+                elim (cases_Bool (is_from_to 32 126 byte)) [
+                  | inl printable ↦
+                      let none = string_rest_of-take (next ∷ rest) zero (omega arith) in
+                      rw (other, single, printable, text_at-onward 0 1 1 byte (closing (next ∷ rest)) (omega arith), ← none) refl
+                  | inr foreign ↦ rw (other, single, foreign) refl
+                ]
+          ]
     ]
 string_rest_of-take (byte ∷ next ∷ rest) (suc (suc k)) within =
     elim (cases_Bool (byte == 34)) [
       | inl quote ↦ rw (quote, one_past k) refl
       | inr other ↦
-            elim (cases_Bool (byte == 92)) [
-              | inl pair ↦
-                    let here = string_rest_of-take rest k (omega arith) in
-                    rw (other, pair, here) (sym (text_at-pair k (escape_of next) (closing rest)))
-              | inr single ↦
-                    elim (cases_Bool (is_from_to 32 126 byte)) [
-                      | inl printable ↦
-                            let here = string_rest_of-take (next ∷ rest) (suc k) (omega arith) in
-                            rw (other, single, printable, text_at-onward (suc k) (suc (suc k)) 1 byte (closing (next ∷ rest)) (omega arith), ← here) refl
-                      | inr foreign ↦ rw (other, single, foreign) refl
-                    ]
-            ]
+          elim (cases_Bool (byte == 92)) [
+            | inl pair ↦
+                let here = string_rest_of-take rest k (omega arith) in
+                rw (other, pair, here) (sym (text_at-pair k (escape_of next) (closing rest)))
+            | inr single ↦
+                elim (cases_Bool (is_from_to 32 126 byte)) [
+                  | inl printable ↦
+                      let here = string_rest_of-take (next ∷ rest) (suc k) (omega arith) in
+                      rw (other, single, printable, text_at-onward (suc k) (suc (suc k)) 1 byte (closing (next ∷ rest)) (omega arith), ← here) refl
+                  | inr foreign ↦ rw (other, single, foreign) refl
+                ]
+          ]
     ]
 
 -- ## Step by step
@@ -148,27 +148,27 @@ closing-front byte [] =
     elim (cases_Bool (byte == 34)) [
       | inl quote ↦ rw quote refl
       | inr other ↦
-            elim (cases_Bool (byte == 92)) [
-              | inl pair ↦ rw (other, pair) refl
-              | inr single ↦
-                    elim (cases_Bool (is_from_to 32 126 byte)) [
-                      | inl printable ↦ rw (other, single, printable) refl
-                      | inr foreign ↦ rw (other, single, foreign) refl
-                    ]
-            ]
+          elim (cases_Bool (byte == 92)) [
+            | inl pair ↦ rw (other, pair) refl
+            | inr single ↦
+                elim (cases_Bool (is_from_to 32 126 byte)) [
+                  | inl printable ↦ rw (other, single, printable) refl
+                  | inr foreign ↦ rw (other, single, foreign) refl
+                ]
+          ]
     ]
 closing-front byte (next ∷ rest) =
     elim (cases_Bool (byte == 34)) [
       | inl quote ↦ rw quote refl
       | inr other ↦
-            elim (cases_Bool (byte == 92)) [
-              | inl pair ↦ rw (other, pair) (closing-pair byte next rest (escape_of next))
-              | inr single ↦
-                    elim (cases_Bool (is_from_to 32 126 byte)) [
-                      | inl printable ↦ rw (other, single, printable) refl
-                      | inr foreign ↦ rw (other, single, foreign) refl
-                    ]
-            ]
+          elim (cases_Bool (byte == 92)) [
+            | inl pair ↦ rw (other, pair) (closing-pair byte next rest (escape_of next))
+            | inr single ↦
+                elim (cases_Bool (is_from_to 32 126 byte)) [
+                  | inl printable ↦ rw (other, single, printable) refl
+                  | inr foreign ↦ rw (other, single, foreign) refl
+                ]
+          ]
     ]
 
 pub closing-by_front : (rest : List ℕ) → 0 < length rest → closing rest ≡ by_front (front_at (slice_index rest 0) (slice_index rest 1)) rest
@@ -184,24 +184,24 @@ front-within first tail n byte stands =
     elim (cases_Bool (first == 34)) [
       | inl quote ↦ let no : Quote ≡ Stands n byte = rw quote at stands in cc
       | inr other ↦
-            elim (cases_Bool (first == 92)) [
-              | inl pair ↦ pair_fits tail n byte (rw (other, pair) at stands)
-              | inr single ↦
-                    elim (cases_Bool (is_from_to 32 126 first)) [
-                      | inl printable ↦
-                            let one : Stands 1 first ≡ Stands n byte = rw (other, single, printable) at stands in
-                            let e : 1 ≡ n = cc in
-                            (omega arith, omega arith)
-                      | inr foreign ↦ let no : Foreign ≡ Stands n byte = rw (other, single, foreign) at stands in cc
-                    ]
-            ]
+          elim (cases_Bool (first == 92)) [
+            | inl pair ↦ pair_fits tail n byte (rw (other, pair) at stands)
+            | inr single ↦
+                elim (cases_Bool (is_from_to 32 126 first)) [
+                  | inl printable ↦
+                      let one : Stands 1 first ≡ Stands n byte = rw (other, single, printable) at stands in
+                      let e : 1 ≡ n = cc in
+                      (omega arith, omega arith)
+                  | inr foreign ↦ let no : Foreign ≡ Stands n byte = rw (other, single, foreign) at stands in cc
+                ]
+          ]
     ]
-    where
-      pair_fits : (tail : List ℕ) (n byte : ℕ) → pair_at (slice_index tail 0) ≡ Stands n byte → (0 < n) × (n ≤ suc (length tail))
-      pair_fits [] n byte stands = cc
-      pair_fits (next ∷ rest) n byte stands =
-          let e = pair-within (escape_of next) n byte stands in
-          (omega arith, omega arith)
+  where
+    pair_fits : (tail : List ℕ) (n byte : ℕ) → pair_at (slice_index tail 0) ≡ Stands n byte → (0 < n) × (n ≤ suc (length tail))
+    pair_fits [] n byte stands = cc
+    pair_fits (next ∷ rest) n byte stands =
+        let e = pair-within (escape_of next) n byte stands in
+        (omega arith, omega arith)
 
 pub stands-within : (rest : List ℕ) (n byte : ℕ) → 0 < length rest → front_at (slice_index rest 0) (slice_index rest 1) ≡ Stands n byte → (0 < n) × (n ≤ length rest)
 stands-within [] n byte some stands = absurd (omega arith)
@@ -223,10 +223,10 @@ pub record HasRead (rest : List ℕ) (at : ℕ) (text : List ℕ) : Type 0 where
 
 pub HasRead-none : (rest : List ℕ) → HasRead rest 0 []
 HasRead-none rest = record { within = omega arith; onwards = none (closing rest) }
-    where
-      none : (closed : Option (ℕ × List ℕ)) → closed ≡ onward 0 [] closed
-      none None = refl
-      none (Some closed) = let e : 0 + closed.0 ≡ closed.0 = omega arith in rw e refl
+  where
+    none : (closed : Option (ℕ × List ℕ)) → closed ≡ onward 0 [] closed
+    none None = refl
+    none (Some closed) = let e : 0 + closed.0 ≡ closed.0 = omega arith in rw e refl
 
 pub HasRead-more : (rest part : List ℕ) (at n byte : ℕ) (text : List ℕ) → HasRead rest at text → at < length rest → part ≡ drop at rest → Stands n byte ≡ front_at (slice_index part 0) (slice_index part 1) → HasRead rest (at + n) (text ++ (byte ∷ []))
 HasRead-more rest part at n byte text read under same front =
@@ -280,11 +280,11 @@ pub token_at-no_string : (rest : List ℕ) → slice_index rest 0 ≡ 34 → ((k
 unfolding token_at
 token_at-no_string rest quote none =
     rw (longest_of-none (length rest) rest (no_lexeme rest quote none), token_at) refl
-    where
-      no_lexeme : (rest : List ℕ) → slice_index rest 0 ≡ 34 → ((k : ℕ) → k ≤ length (drop 1 rest) → string_rest_of (take k (drop 1 rest)) ≡ None) → (k : ℕ) → 0 < k → k ≤ length rest → lexeme_of (take k rest) ≡ None
-      no_lexeme rest quote none zero some within = absurd (omega arith)
-      no_lexeme rest quote none (suc k) some within =
-          rw (lexeme_of-string rest k quote, none k (omega (arith, length-body rest quote))) refl
+  where
+    no_lexeme : (rest : List ℕ) → slice_index rest 0 ≡ 34 → ((k : ℕ) → k ≤ length (drop 1 rest) → string_rest_of (take k (drop 1 rest)) ≡ None) → (k : ℕ) → 0 < k → k ≤ length rest → lexeme_of (take k rest) ≡ None
+    no_lexeme rest quote none zero some within = absurd (omega arith)
+    no_lexeme rest quote none (suc k) some within =
+        rw (lexeme_of-string rest k quote, none k (omega (arith, length-body rest quote))) refl
 
 -- the one front that ends a string
 abbrev OnlyFront : List ℕ → ℕ → List ℕ → Type 0
@@ -296,12 +296,12 @@ longest_of-string rest n text quote within only =
     let same : (n == n) ≡ true = eq-eqb n n refl in
     let here : lexeme_of (take (suc n) rest) ≡ Some (TextLexeme text) = rw (lexeme_of-string rest n quote, only n within, same) refl in
     longest_of-found (length rest) (suc n) rest (TextLexeme text) (omega arith) (omega arith) here (longer rest n text quote only)
-    where
-      longer : (rest : List ℕ) (n : ℕ) (text : List ℕ) → slice_index rest 0 ≡ 34 → OnlyFront (drop 1 rest) n text → (k : ℕ) → suc n < k → k ≤ length rest → lexeme_of (take k rest) ≡ None
-      longer rest n text quote only zero above under = absurd (omega arith)
-      longer rest n text quote only (suc k) above under =
-          let other : (k == n) ≡ false = ne_eqb k n (λ h. absurd (omega arith)) in
-          rw (lexeme_of-string rest k quote, only k (omega (arith, length-body rest quote)), other) refl
+  where
+    longer : (rest : List ℕ) (n : ℕ) (text : List ℕ) → slice_index rest 0 ≡ 34 → OnlyFront (drop 1 rest) n text → (k : ℕ) → suc n < k → k ≤ length rest → lexeme_of (take k rest) ≡ None
+    longer rest n text quote only zero above under = absurd (omega arith)
+    longer rest n text quote only (suc k) above under =
+        let other : (k == n) ≡ false = ne_eqb k n (λ h. absurd (omega arith)) in
+        rw (lexeme_of-string rest k quote, only k (omega (arith, length-body rest quote)), other) refl
 
 pub token_at-string : (rest : List ℕ) (n : ℕ) (text : List ℕ) → slice_index rest 0 ≡ 34 → n ≤ length (drop 1 rest) → OnlyFront (drop 1 rest) n text → length text ≤ 255 → token_at rest ≡ Found (n + 1) (Text text)
 unfolding token_at

@@ -1,13 +1,13 @@
 -- The word at the front of a rest that begins with a letter.
-use Rattle.std.proofs.Common.{◌≡◌, ℕ, zero, suc, ◌+◌, ◌<◌, ◌≤◌, Bool, true, false, ◌&&◌, List, [], ◌∷◌, length, take, drop, refl, arith, IsTrue, slice_index}
-use Rattle.std.specs.Prelude.{Option, Some, None, if◌then◌else◌, nat_le}
-use Rattle.std.specs.List.{list_all, take_while, prefix_len}
+use Rattle.std.proofs.Common.{◌≡◌, ℕ, zero, suc, ◌<◌, ◌≤◌, true, false, List, [], ◌∷◌, length, take, refl, arith, slice_index}
+use Rattle.std.specs.Prelude.{Some, None, nat_le}
+use Rattle.std.specs.List.{list_all, prefix_len}
 use Rattle.std.proofs.lemmas.List.Sums.{prefix_len-le-length}
 use Rattle.std.proofs.lemmas.List.Folds.{length-prefix_len}
 use Rattle.std.proofs.lemmas.Bool.Decides.{nat_tests}
-use Rattle.sk_tree.specs.Lexemes.{Lexeme, WordLexeme, lexeme_of, is_letter, is_digit, is_word_byte, is_word}
+use Rattle.sk_tree.specs.Lexemes.{WordLexeme, lexeme_of, is_letter, is_word_byte}
 use Rattle.sk_tree.specs.declared.token.TokenKind.TheVariants.{Word}
-use Rattle.sk_tree.specs.Tokens.{Piece, Found, Faulty, LongName, judged, token_at, longest_of}
+use Rattle.sk_tree.specs.Tokens.{Found, Faulty, LongName, token_at, longest_of}
 use Rattle.sk_lexer.proofs.Longest.{longest_of-found}
 use Rattle.sk_lexer.proofs.Prefixes.{prefix_len-pass, list_all-prefix, list_all-longer}
 
@@ -29,12 +29,12 @@ longest_of-word (first ∷ tail) letter =
     let e = prefix_len-pass is_word_byte first tail (is_word_byte-letter first letter) in
     let within = prefix_len-le-length is_word_byte tail in
     rw e (longest_of-found (length (first ∷ tail)) (suc (prefix_len is_word_byte tail)) (first ∷ tail) (WordLexeme (take (suc (prefix_len is_word_byte tail)) (first ∷ tail))) (omega arith) (omega arith)
-        (lexeme_of-word first tail (prefix_len is_word_byte tail) letter (list_all-prefix is_word_byte tail))
-        (λ k longer under. longer_word first tail k letter longer under))
-    where
-      longer_word : (first : ℕ) (tail : List ℕ) (k : ℕ) → is_letter first ≡ true → suc (prefix_len is_word_byte tail) < k → k ≤ length (first ∷ tail) → lexeme_of (take k (first ∷ tail)) ≡ None
-      longer_word first tail zero letter longer under = absurd (omega arith)
-      longer_word first tail (suc k) letter longer under = lexeme_of-no_word first tail k letter (list_all-longer is_word_byte tail k (omega arith) (omega arith))
+    (lexeme_of-word first tail (prefix_len is_word_byte tail) letter (list_all-prefix is_word_byte tail))
+    (λ k longer under. longer_word first tail k letter longer under))
+  where
+    longer_word : (first : ℕ) (tail : List ℕ) (k : ℕ) → is_letter first ≡ true → suc (prefix_len is_word_byte tail) < k → k ≤ length (first ∷ tail) → lexeme_of (take k (first ∷ tail)) ≡ None
+    longer_word first tail zero letter longer under = absurd (omega arith)
+    longer_word first tail (suc k) letter longer under = lexeme_of-no_word first tail k letter (list_all-longer is_word_byte tail k (omega arith) (omega arith))
 
 pub token_at-word : (rest : List ℕ) → is_letter (slice_index rest 0) ≡ true → prefix_len is_word_byte rest ≤ 255 → token_at rest ≡ Found (prefix_len is_word_byte rest) (Word (take (prefix_len is_word_byte rest) rest))
 unfolding token_at

@@ -8,8 +8,6 @@ use Rattle.sk_lexer.specs.declared.piece.Piece.{Piece}
 use Rattle.sk_lexer.specs.declared.piece.Piece.TheVariants.{Passed, Found, Faulty}
 use Rattle.sk_lexer.specs.declared.piece.Flaw.{Flaw}
 use Rattle.sk_lexer.specs.declared.piece.Flaw.TheVariants.{NoToken, Wide, LongName}
-use Rattle.sk_lexer.specs.declared.fault.LexFault.{LexFault}
-use Rattle.sk_lexer.specs.declared.fault.LexFault.TheVariants as faults
 
 -- the fault that stands at the first byte of what has the flaw
 abbrev pub fault_of : Flaw → ℕ → definition.TokenFault

@@ -49,9 +49,7 @@ pub fn digit_value(digit: u8) -> u8
 pub fn word_len(rest: &[u8]) -> usize
     ensures { result ≡ length (take_while definition.is_word_byte rest.now) }
 {
-    rest.iter()
-        .take_while(|byte| is_word_byte(**byte))
-        .count()
+    rest.iter().take_while(|byte| is_word_byte(**byte)).count()
 }
 
 /// How many decimal digits the rest begins with.
@@ -65,7 +63,5 @@ pub fn digits_len(rest: &[u8]) -> usize
 pub fn hex_digits_len(rest: &[u8]) -> usize
     ensures { result ≡ length (take_while definition.is_hex_digit rest.now) }
 {
-    rest.iter()
-        .take_while(|byte| is_hex_digit(**byte))
-        .count()
+    rest.iter().take_while(|byte| is_hex_digit(**byte)).count()
 }

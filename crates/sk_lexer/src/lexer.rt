@@ -3,8 +3,8 @@ ghost use Rattle.sk_tree.specs.Tokens.{tokens_of};
 ghost use Rattle.sk_lexer.specs.Faults.{Tells};
 
 use crate::LexFault;
-use crate::place::Place;
 use crate::piece::{Piece, next_piece};
+use crate::place::Place;
 use sk_tree::Token;
 use std::alloc::Global;
 
@@ -22,7 +22,10 @@ pub fn tokens(alloc: Global, text: &[u8]) -> Result<Vec<Token>, LexFault>
         match piece {
             Piece::Passed(bytes) => place = place.past(&rest[..bytes]),
             Piece::Found(bytes, what) => {
-                let token = Token { what, line: place.line };
+                let token = Token {
+                    what,
+                    line: place.line,
+                };
                 tokens.push(token)?;
                 place = place.past(&rest[..bytes]);
             }
@@ -31,3 +34,6 @@ pub fn tokens(alloc: Global, text: &[u8]) -> Result<Vec<Token>, LexFault>
     }
     Ok(tokens)
 }
+
+#[cfg(test)]
+mod tests;

@@ -1,10 +1,11 @@
 ghost use Rattle.std.specs.Prelude.{◌≡◌, ◌<◌, ◌^◌, ◌-◌, ◌==◌, ◌&&◌, ◌||◌, if◌then◌else◌, nat_lt, min, true, drop, slice_index};
-ghost use Rattle.sk_tree.specs.Lexemes.{NumberLexeme, is_digit, is_hex_digit, is_word_byte, digits_value};
+ghost use Rattle.sk_tree.specs.Lexemes.{NumberLexeme, is_digit, digits_value};
+ghost use Rattle.sk_tree.specs.Lexemes as lexemes;
 ghost use Rattle.sk_tree.specs.Tokens.{token_at};
 ghost use Rattle.sk_tree.specs.Tokens as definition;
 ghost use Rattle.sk_lexer.specs.Pieces.{piece_of, is_suffix, IsLongestNumeral};
 
-use crate::bytes::{digit_value, digits_len, hex_digits_len};
+use crate::bytes::{digit_value, digits_len, hex_digits_len, is_hex_digit, is_word_byte};
 use crate::piece::{Flaw, Piece};
 use sk_tree::{Cell, TokenKind, Ty};
 
@@ -51,9 +52,9 @@ fn judged(rest: &[u8], bytes: usize, value: u64, is_suffixed: bool) -> Piece
 
 /// Whether a letter, a digit or `_` stands at this byte.
 fn runs_on(rest: &[u8], at: usize) -> bool
-    ensures { result ≡ is_word_byte (slice_index rest.now at) }
+    ensures { result ≡ lexemes.is_word_byte (slice_index rest.now at) }
 {
-    at < rest.len() && crate::bytes::is_word_byte(rest[at])
+    at < rest.len() && is_word_byte(rest[at])
 }
 
 fn type_of(value: u64, is_suffixed: bool) -> Ty
@@ -90,9 +91,9 @@ fn longest_numeral(rest: &[u8]) -> Numeral
 
 /// Whether `x` and a hexadecimal digit follow the first byte.
 fn begins_hex(rest: &[u8]) -> bool
-    ensures { result ≡ (slice_index rest.now 1 == 120 && is_hex_digit (slice_index rest.now 2)) }
+    ensures { result ≡ (slice_index rest.now 1 == 120 && lexemes.is_hex_digit (slice_index rest.now 2)) }
 {
-    rest.len() > 2 && rest[1] == b'x' && crate::bytes::is_hex_digit(rest[2])
+    rest.len() > 2 && rest[1] == b'x' && is_hex_digit(rest[2])
 }
 
 /// The value of digits at base 10 or 16, or `u64::MAX` for a greater one.

@@ -1,4 +1,4 @@
-ghost use Rattle.std.specs.Prelude.{◌≡◌, ◌≢◌, [], ◌∷◌, false, IsTrue, slice_index, length, ◌<◌};
+ghost use Rattle.std.specs.Prelude.{◌≡◌, ◌≢◌, [], ◌∷◌, false, slice_index, length, ◌<◌};
 ghost use Rattle.sk_tree.specs.Lexemes.{is_letter, is_digit, sign_of};
 ghost use Rattle.sk_tree.specs.Tokens.{token_at};
 ghost use Rattle.sk_lexer.specs.Pieces.{piece_of, front_sign};
@@ -6,7 +6,7 @@ ghost use Rattle.sk_lexer.specs.Pieces.{piece_of, front_sign};
 use crate::piece::{Flaw, Piece};
 use sk_tree::{Sign, TokenKind};
 
-/// The longest sign at the front of the rest, which begins no word, number or string.
+/// The longest sign at the front of the rest, whose first byte begins no word, number or string.
 pub fn sign(rest: &[u8]) -> Piece
     requires some { 0 < length rest.now }
     requires no_word { is_letter (slice_index rest.now 0) ≡ false }

@@ -54,7 +54,10 @@ fn up_to_quote(alloc: Global, rest: &[u8]) -> Result<Option<Closed>, AllocError>
     let mut at = 0;
     while at < rest.len() {
         match front_of(&rest[at..]) {
-            Front::Quote => return Ok(Some(Closed { bytes: at + 1, text })),
+            Front::Quote => return Ok(Some(Closed {
+                bytes: at + 1,
+                text,
+            })),
             Front::Stands(bytes, byte) => {
                 text.push(byte)?;
                 at += bytes;

@@ -1,8 +1,11 @@
 pub mod Bindings
+pub mod BindingsLaws
 pub mod Eager
 pub mod Evaluation
+pub mod ExpressionLaws
 pub mod Expressions
 pub mod Formula
 pub mod Lexemes
+pub mod StatementLaws
 pub mod Tokens
 pub mod Words

@@ -1,8 +1,7 @@
 -- A source that was read is answered as its run.
-use Rattle.std.proofs.Common.{rules, ◌≡◌, ℕ, List, [], refl, subst, sym, inl, inr}
-use Rattle.sk_outside.specs.Holding.{SinkHolding}
+use Rattle.std.proofs.Common.{rules, [], refl, subst, sym, inr}
 use Rattle.sk_parser.specs.FirstForm.{IsFirst}
-use Rattle.sk_cli.specs.Answer.{Answer, Reading, Read, IsReading, Gives, TookPrefix, answer_of, ran}
+use Rattle.sk_cli.specs.Answer.{Answer, Read, Gives, TookPrefix, answer_of}
 use Rattle.sk_cli.specs.FirstProgram.{IsFirstProgram}
 use Rattle.sk_cli.proofs.RanLemmas.{IsFirstProgram-first, answer-first}
 use Rattle.sk_cli.proofs.command.run_source.Goals as goal
@@ -14,7 +13,7 @@ returns-in-Ok-run_first-clause-answered g c =
     let told : TookPrefix [] (g.E.Sink.holds c.args.err.now) (g.E.Sink.holds c.args.err.now) = search rules in
     let Says : Answer → Type 0 = λ answer. Gives answer 0 (g.O.Sink.holds c.args.out.now) (g.O.Sink.holds c.run_first.new.out) (g.E.Sink.holds c.args.err.now) (g.E.Sink.holds c.args.err.now) in
     let gives : Says (answer_of (Read c.in-Ok.program)) = subst Says (sym (answer-first c.in-Ok.program is))
-        (record { status = refl; printed = c.in-Ok-run_first.ensures.printed; told = told }) in
+    (record { status = refl; printed = c.in-Ok-run_first.ensures.printed; told = told }) in
     inr (inr (Read c.in-Ok.program, (c.requires, reads), gives))
 
 pub returns-in-Err-Failed-clause-cut_short : goal.returns-in-Err-Failed-clause-cut_short

@@ -1,5 +1,5 @@
 -- An element of equal cells gives the value that each of them gives.
-use Rattle.std.proofs.Common.{rules, arith, refl, ap, sym, subst, ◌∙◌, ◌≡◌, ◌<◌, ◌+◌, ℕ, ℤ, pos, Ok, Result, List, [], ◌∷◌, ◌++◌, replicate, to_z, of_z, w64, slice_index_or, length}
+use Rattle.std.proofs.Common.{rules, arith, ap, sym, subst, ◌∙◌, ◌≡◌, ◌<◌, ℕ, ℤ, pos, Ok, Result, List, [], ◌∷◌, ◌++◌, replicate, to_z, of_z, w64, slice_index_or, length}
 use Rattle.std.proofs.lemmas.Int.{to_z-of_z}
 use Rattle.std.proofs.lemmas.List.{get_or-replicate, length-replicate, replicate_more}
 use Rattle.std.specs.Prelude.{FitsSigned}

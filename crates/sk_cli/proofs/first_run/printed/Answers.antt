@@ -1,12 +1,12 @@
 -- The numbers in the tree are those of its holes, and the run prints the element that they give.
-use Rattle.std.proofs.Common.{rules, arith, refl, ap, sym, subst, ◌∙◌, ◌≡◌, ◌<◌, ◌≤◌, ◌+◌, ℕ, ℤ, pos, Ok, Option, Some, None, Result, List, [], ◌∷◌, ◌++◌, replicate, to_z, of_z, w64, slice_index_or, length, vec_len}
+use Rattle.std.proofs.Common.{arith, ap, sym, subst, ◌∙◌, ◌≡◌, ◌<◌, ℕ, ℤ, pos, Option, List, [], ◌∷◌, ◌++◌, replicate, to_z, of_z, w64, slice_index_or, length}
 use Rattle.std.proofs.lemmas.List.{get_or-replicate, length-replicate}
 use Rattle.std.specs.Prelude.{unwrap_or, nat_abs, FitsSigned, IfOk}
 use Rattle.std.proofs.lemmas.Int.{to_z-of_z}
 use Rattle.sk_base.specs.declared.number.Ty.TheVariants.{Int}
 use Rattle.sk_base.specs.ArithmeticLaws.{wrapped-in_range, InRange-Long}
 use Rattle.std.specs.Fmt.{signed_decimal}
-use Rattle.sk_parser.specs.FirstForm.{Holes, AreFine, first_tree}
+use Rattle.sk_parser.specs.FirstForm.{Holes, AreFine}
 use Rattle.sk_tree.specs.declared.tree.Program.{Program}
 use Rattle.sk_tree.specs.Eager.{eager_of, EagerRun}
 use Rattle.sk_cli.specs.Answer.{statement_limit}

@@ -1,9 +1,9 @@
 -- Main's second statement declares the vector, and its fourth prints.
-use Rattle.std.proofs.Common.{◌≡◌, ℕ, ℤ, pos, Some, None, Option, List, [], ◌∷◌, ◌∙◌, ap, sym, length, refl, arith, rules, slice_index_or, slice_index}
+use Rattle.std.proofs.Common.{◌≡◌, ℤ, pos, Some, Option, List, ◌∙◌, ap, sym, rules, slice_index_or, slice_index}
 use Rattle.std.proofs.lemmas.Int.{to_z-of_z}
 use Rattle.std.specs.Int.{w64}
 use Rattle.std.specs.Prelude.{unwrap_or, FitsSigned}
-use Rattle.sk_parser.specs.FirstForm.{Holes, first_main}
+use Rattle.sk_parser.specs.FirstForm.{first_main}
 use Rattle.sk_tree.specs.declared.tree.Function.{Function}
 use Rattle.sk_tree.specs.declared.tree.Statement.{Statement}
 use Rattle.sk_cli.specs.FirstProgram.{vector_in, print_in}

@@ -1,15 +1,14 @@
 -- The tree has the function, and then main.
-use Rattle.std.proofs.Common.{◌≡◌, ℕ, ℤ, pos, Some, None, Option, List, [], ◌∷◌, ◌∙◌, ap, sym, refl, rules, slice_index_or, slice_index}
+use Rattle.std.proofs.Common.{◌≡◌, ℤ, pos, Some, Option, List, ◌∙◌, ap, sym, rules, slice_index_or, slice_index}
 use Rattle.std.proofs.lemmas.Int.{to_z-of_z}
 use Rattle.std.specs.Int.{w64}
 use Rattle.std.specs.Prelude.{unwrap_or, FitsSigned}
 use Rattle.sk_base.specs.declared.number.Op.{Op}
 use Rattle.sk_base.specs.declared.number.Op.TheVariants.{Add}
-use Rattle.sk_parser.specs.FirstForm.{Holes, first_function, first_main, first_tree, op_of}
+use Rattle.sk_parser.specs.FirstForm.{first_function, first_main, first_tree}
 use Rattle.sk_tree.specs.declared.tree.Function.{Function}
 use Rattle.sk_tree.specs.declared.tree.Program.{Program}
 use Rattle.sk_cli.specs.declared.parts.Parts.{Parts}
-use Rattle.sk_cli.specs.Parts.{parts_in}
 use Rattle.sk_cli.proofs.parts.parts_of.Goals as goal
 
 pub returns-in_default-body_of : goal.returns-in_default-body_of

@@ -1,5 +1,5 @@
 -- Two words of which the first is `run` ask for the second, and no others ask for anything.
-use Rattle.std.proofs.Common.{sym, ◌∙◌, ap, subst, string_bytes, slice_index_or, Global, rules, codes, Some}
+use Rattle.std.proofs.Common.{sym, ◌∙◌, ap, string_bytes, Some}
 use Rattle.sk_cli.proofs.AskedLemmas.{asked-run, asked-other, asked-count}
 use Rattle.sk_cli.proofs.words.asked.Goals as goal
 use Rattle.sk_cli.proofs.words.asked.Goals.{else-words-eq2-via-then-words-eq2+else-eq, else-words-eq2-via-else-words-eq2}

@@ -1,4 +1,4 @@
-use Rattle.std.proofs.Common.{◌≡◌, ◌∙◌, sym, arith, to_z, pos, w64}
+use Rattle.std.proofs.Common.{◌≡◌, sym, arith, to_z, pos, w64}
 use Rattle.std.proofs.lemmas.Int.{ints}
 use Rattle.sk_lexer.proofs.Numbers.{judged-runs_on, judged-wide, judged-number}
 use Rattle.sk_lexer.proofs.number.judged.Goals as goal

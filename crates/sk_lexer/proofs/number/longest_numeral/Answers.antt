@@ -1,5 +1,5 @@
-use Rattle.std.proofs.Common.{◌≡◌, ◌∙◌, ◌-◌, ◌^◌, ℕ, min, length, take, drop, slice_index, sym, subst, arith}
-use Rattle.std.specs.Prelude.{◌==◌, ◌&&◌, take_while}
+use Rattle.std.proofs.Common.{◌≡◌, ◌∙◌, ◌-◌, ◌^◌, min, length, take, drop, slice_index, sym, subst}
+use Rattle.std.specs.Prelude.{◌==◌, take_while}
 use Rattle.std.proofs.lemmas.List.{take_rest}
 use Rattle.std.proofs.lemmas.Bool.{eqb-true}
 use Rattle.sk_tree.specs.Lexemes.{is_digit, is_hex_digit, digits_value}

@@ -1,4 +1,4 @@
-use Rattle.std.proofs.Common.{◌≡◌, ◌∙◌, sym}
+use Rattle.std.proofs.Common.{◌∙◌, sym}
 use Rattle.sk_lexer.proofs.Numbers.{token_at-suffixed, token_at-plain}
 use Rattle.sk_lexer.proofs.number.number.Goals as goal
 

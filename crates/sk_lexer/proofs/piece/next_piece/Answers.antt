@@ -1,10 +1,9 @@
-use Rattle.std.proofs.Common.{◌≡◌, ◌∙◌, ◌+◌, ◌≤◌, length, drop, refl, sym, ap, arith}
-use Rattle.std.specs.Prelude.{◌==◌, Some, None}
+use Rattle.std.proofs.Common.{◌∙◌, drop, refl, sym, ap, arith}
 use Rattle.std.proofs.lemmas.Bool.{eq-eqb, ne_eqb}
 use Rattle.std.proofs.lemmas.List.{take_rest, length-drop}
 use Rattle.sk_tree.specs.Tokens.{comment_rest}
 use Rattle.sk_lexer.proofs.Blanks.{comment_rest-within}
-use Rattle.sk_lexer.proofs.PieceLemmas.{piece_at-some, piece_at-within}
+use Rattle.sk_lexer.proofs.PieceLemmas.{piece_at-some}
 use Rattle.sk_lexer.proofs.piece.next_piece.Goals as goal
 
 pub returns-then-is_blank : goal.returns-then-is_blank
@@ -74,4 +73,3 @@ returns-else-rest-eq35 c =
     let no_block = sym c.starts_with-else-starts_with.ensures.value ∙ c.if-starts_with-2.false in
     let no_hash = ne_eqb _ 35 c.if-rest-eq35.false in
     rw (some, other, no_line, no_block, no_hash) c.token.ensures
-

@@ -1,6 +1,5 @@
-use Rattle.std.proofs.Common.{◌≡◌, ◌∙◌, ◌+◌, ◌++◌, ◌∷◌, [], subst, sym, arith}
 use Rattle.std.proofs.lemmas.List.{take_rest}
-use Rattle.sk_lexer.proofs.Strings.{HasRead, HasRead-none, HasRead-more, closes, closes-never, closing-foreign, closing-end, stands-within}
+use Rattle.sk_lexer.proofs.Strings.{HasRead-none, HasRead-more, closes, closes-never, closing-foreign, closing-end}
 use Rattle.sk_lexer.proofs.string.up_to_quote.Goals as goal
 
 pub loop-at-init : goal.loop-at-init

@@ -1,4 +1,4 @@
-use Rattle.std.proofs.Common.{◌≡◌, ◌∙◌, refl, sym, arith}
+use Rattle.std.proofs.Common.{◌∙◌, refl, sym, arith}
 use Rattle.sk_tree.specs.Lexemes.{is_word_byte}
 use Rattle.sk_lexer.proofs.Prefixes.{length-take_while}
 use Rattle.sk_lexer.proofs.Words.{token_at-word, token_at-long_word}

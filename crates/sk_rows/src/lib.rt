@@ -1,0 +1,18 @@
+//! Rows that were worked out by hand: tables of tests over a file and streams in memory. Each row crosses all crates,
+//! from the words of a command line and the bytes of a source to a status, what is printed, and the line on the error
+//! stream.
+//!
+//! - `runs`: one run, and what it left behind.
+//! - `commands`: command lines, and faults of the file and the streams.
+//! - `near_misses`: programs that are just of the first form, or just not.
+//! - `sources`: sources that are no program, and the longest one.
+#![tactic(auto)]
+
+#[cfg(test)]
+mod commands;
+#[cfg(test)]
+mod near_misses;
+#[cfg(test)]
+mod runs;
+#[cfg(test)]
+mod sources;

@@ -5,8 +5,8 @@ use sk_cli::skepu;
 use sk_outside::{HostErr, HostFiles, HostOut};
 use std::alloc::AllocError;
 use std::env;
-use std::rt::Env;
 use std::process::ExitCode;
+use std::rt::Env;
 
 /// The status of want of memory.
 const WANT_OF_MEMORY: u8 = 9;

@@ -1,9 +1,9 @@
 -- Answers to sources as the files tell them.
-use Rattle.std.proofs.Common.{◌≡◌, ℕ, ◌<◌, ◌+◌, List, Option, Some, None, refl, replicate, length, arith, inl, inr, codes}
+use Rattle.std.proofs.Common.{◌≡◌, ℕ, ◌<◌, ◌+◌, List, Option, Some, None, refl, replicate, length, arith, codes}
 use Rattle.std.proofs.lemmas.List.{length-replicate}
 use Rattle.std.specs.Prelude.{IsSomeAnd}
-use Rattle.sk_outside.specs.Holding.{Contents, Tells, TellsLonger, SinkHolding}
-use Rattle.sk_cli.specs.Answer.{Answer, Reading, TooLong, IsReading, IsAnswerTo, answer_of, refused, CutShort}
+use Rattle.sk_outside.specs.Holding.{Contents, TellsLonger}
+use Rattle.sk_cli.specs.Answer.{TooLong, IsAnswerTo, refused}
 
 -- there are bytes of any number
 longer-than : (limit : ℕ) → (bytes : List ℕ) × (limit < length bytes)
@@ -20,16 +20,3 @@ too_long-answer (Some find) name longer = found (find name) refl longer
         → IsAnswerTo (Some name) (Some find) (refused 1 (codes "refused long\n"))
     found None is longer = absurd longer
     found (Some bytes) is longer = (bytes, is, TooLong, longer, refl)
-
--- an answer to the bytes of a file is one to its name
-pub answer-name : (contents : Option Contents) (name source : List ℕ) (answer : Answer) → Tells contents name source
-    → (reading : Reading) × IsReading source reading × (answer ≡ answer_of reading) → IsAnswerTo (Some name) contents answer
-answer-name contents name source answer tells is = (source, tells, is.0, is.1, is.2)
-
--- and so is what was printed of it
-pub cut_short-name : (contents : Option Contents) (name source : List ℕ) (out out' : SinkHolding) → Tells contents name source
-    → CutShort (λ answer. (reading : Reading) × IsReading source reading × (answer ≡ answer_of reading)) out out'
-    → CutShort (IsAnswerTo (Some name) contents) out out'
-cut_short-name contents name source out out' tells (inl nothing) = inl nothing
-cut_short-name contents name source out out' tells (inr some) =
-    inr (some.0, answer-name contents name source some.0 tells some.1, some.2)

@@ -1,5 +1,5 @@
 -- What a command answers.
-use Rattle.std.specs.Prelude.{◌≡◌, ◌⊎◌, ℕ, ◌^◌, ◌<◌, ◌≤◌, List, [], ◌∷◌, ◌++◌, length, Option, Some, None, if◌then◌else◌, codes}
+use Rattle.std.specs.Prelude.{◌≡◌, ◌⊎◌, ℕ, ◌^◌, ◌<◌, ◌≤◌, List, [], ◌∷◌, ◌++◌, length, Option, Some, None, if◌then◌else◌, codes, IsSomeAnd}
 use Rattle.std.specs.Fmt.{decimal}
 use Rattle.sk_base.specs.declared.number.Trap.{Trap as TrapKind}
 use Rattle.sk_base.specs.declared.number.Trap.TheVariants.{Divide, Index, Turns, Shape, Empty}
@@ -90,12 +90,15 @@ Took bytes before now = Appends before.taken now.taken bytes
 abbrev pub TookPrefix : (bytes : List ℕ) → (before now : SinkHolding) → Type 0
 TookPrefix bytes before now = AppendsPrefix before.taken now.taken bytes
 
--- The call gave the answer: its status, all of its bytes, and its line, or a prefix of the line where the error stream
--- did not take more.
+-- the error stream took the line, or a prefix of it where a put on that stream failed in this call
+abbrev pub Told : (line : List ℕ) → (before now : SinkHolding) → Type 0
+Told line before now = Took line before now ⊎ (Rose before.faults now.faults × TookPrefix line before now)
+
+-- The call gave the answer: its status, all of its bytes, and its line.
 pub record Gives (answer : Answer) (given : ℕ) (out out' err err' : SinkHolding) : Type 0 where
   pub status : given ≡ answer.status
   pub printed : Took answer.printed out out'
-  pub told : TookPrefix answer.line err err'
+  pub told : Told answer.line err err'
 
 -- nothing was printed, or a prefix of what an answer prints
 abbrev pub CutShort : (Answer → Type 0) → (out out' : SinkHolding) → Type 0
@@ -104,15 +107,25 @@ CutShort IsAnswer out out' = Took [] out out' ⊎ ((answer : Answer) × IsAnswer
 abbrev pub read_fault_line : List ℕ → List ℕ
 read_fault_line name = codes "read fault " ++ name ++ codes "\n"
 
--- A read of the file that the words ask for has failed in this call, and nothing was printed. The error stream has taken
--- the line that says so, or a prefix of it.
+-- a read of the file that the words ask for has failed in this call, nothing was printed, and the line says so
 pub record IsReadFault (name : List ℕ) (reads reads' : Faults) (out out' err err' : SinkHolding) : Type 0 where
   pub rose : Rose reads.count reads'.count
   pub named : reads'.name ≡ Some name
   pub silent : Took [] out out'
-  pub told : TookPrefix (read_fault_line name) err err'
+  pub told : Told (read_fault_line name) err err'
 
--- a put on the output has failed in this call
+-- a put on the output has failed in this call, and the line says so
 pub record IsWriteFault (out out' err err' : SinkHolding) : Type 0 where
   pub rose : Rose out.faults out'.faults
-  pub told : TookPrefix (codes "write fault output\n") err err'
+  pub told : Told (codes "write fault output\n") err err'
+
+-- The lines that a call may begin to tell where memory is wanting: that of the want itself, that of an answer, and those
+-- of a fault.
+abbrev pub IsLine : (asked : Option (List ℕ)) → (Answer → Type 0) → (line : List ℕ) → Type 0
+IsLine asked IsAnswer line =
+    (line ≡ codes "memory\n") ⊎ (line ≡ codes "write fault output\n") ⊎ IsSomeAnd asked (λ name. line ≡ read_fault_line name)
+    ⊎ ((answer : Answer) × IsAnswer answer × (line ≡ answer.line))
+
+-- the error stream took a prefix of one of them
+abbrev pub ToldShort : (asked : Option (List ℕ)) → (Answer → Type 0) → (err err' : SinkHolding) → Type 0
+ToldShort asked IsAnswer err err' = (line : List ℕ) × IsLine asked IsAnswer line × TookPrefix line err err'

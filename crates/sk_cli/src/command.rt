@@ -1,9 +1,9 @@
 //! The top call.
-ghost use Rattle.std.specs.Prelude.{◌≡◌, ◌⊎◌, ◌<◌, ◌≤◌, ◌^◌, length, map, string_bytes, Some, IsSomeAnd, codes};
-ghost use Rattle.sk_cli.specs.Answer.{Answer, Reading, IsAnswer, IsReading, Gives, CutShort, IsReadFault, IsWriteFault, TookPrefix, Took, asked_of, answer_of, source_limit};
+ghost use Rattle.std.specs.Prelude.{◌≡◌, ◌⊎◌, ◌<◌, ◌≤◌, ◌^◌, length, map, string_bytes, IsSomeAnd, None};
+ghost use Rattle.sk_cli.specs.Answer.{Answer, Reading, IsAnswer, IsReading, Gives, CutShort, IsReadFault, IsWriteFault, ToldShort, asked_of, answer_of, source_limit};
 
 use crate::first_run::run_first;
-use crate::report::{report, report_read_fault};
+use crate::report::{WANT_OF_MEMORY, tell, tell_read_fault};
 use crate::words::asked;
 use sk_outside::{FileAnswer, Files, Sink, WriteAnswer};
 use sk_parser::{FirstFault, first};
@@ -21,30 +21,20 @@ fn run_source<O: Sink, E: Sink>(alloc: Global, source: &[u8], out: &mut O, err: 
         (λ answer. (reading : Reading) × IsReading source.now reading × (answer ≡ answer_of reading))
         (O.holds out.old) (O.holds out.new) }
     ensures write_fault { result ≡ 8 → IsWriteFault (O.holds out.old) (O.holds out.new) (E.holds err.old) (E.holds err.new) }
-    ensures memory { result ≡ 9 → TookPrefix (codes "memory\n") (E.holds err.old) (E.holds err.new) }
-    ensures steady { (result ≡ 8) ⊎ ((O.holds out.new).faults ≡ (O.holds out.old).faults) }
+    ensures memory { result ≡ 9 → ToldShort None
+        (λ answer. (reading : Reading) × IsReading source.now reading × (answer ≡ answer_of reading))
+        (E.holds err.old) (E.holds err.new) }
+    ensures steady { (result ≡ 8) ⊎ (result ≡ 9) ⊎ ((O.holds out.new).faults ≡ (O.holds out.old).faults) }
 {
     let program = match first(alloc, source) {
         Ok(program) => program,
-        Err(FirstFault::Later) => {
-            report(alloc, err, b"refused later\n");
-            return 1;
-        }
-        Err(FirstFault::Memory) => {
-            report(alloc, err, b"memory\n");
-            return 9;
-        }
+        Err(FirstFault::Later) => return tell(alloc, err, b"refused later\n", 1),
+        Err(FirstFault::Memory) => return tell(alloc, err, b"memory\n", WANT_OF_MEMORY),
     };
     match run_first(alloc, &program, out) {
         Ok(()) => 0,
-        Err(WriteAnswer::Failed) => {
-            report(alloc, err, b"write fault output\n");
-            8
-        }
-        Err(WriteAnswer::Memory) => {
-            report(alloc, err, b"memory\n");
-            9
-        }
+        Err(WriteAnswer::Failed) => tell(alloc, err, b"write fault output\n", 8),
+        Err(WriteAnswer::Memory) => tell(alloc, err, b"memory\n", WANT_OF_MEMORY),
     }
 }
 
@@ -74,7 +64,8 @@ pub fn skepu<F: Files, O: Sink, E: Sink>(
         IsReadFault name (F.holds files.old).reads (F.holds files.new).reads (O.holds out.old) (O.holds out.new)
         (E.holds err.old) (E.holds err.new)) }
     ensures write_fault { result ≡ 8 → IsWriteFault (O.holds out.old) (O.holds out.new) (E.holds err.old) (E.holds err.new) }
-    ensures memory { result ≡ 9 → TookPrefix (codes "memory\n") (E.holds err.old) (E.holds err.new) }
+    ensures memory { result ≡ 9 → ToldShort (asked_of (map string_bytes words.now))
+        (IsAnswer (map string_bytes words.now) (F.holds files.old).contents) (E.holds err.old) (E.holds err.new) }
     ensures none_passed_over { ((F.holds files.old).reads.count < (F.holds files.new).reads.count)
         ⊎ ((O.holds out.old).faults < (O.holds out.new).faults) → (result ≡ 7) ⊎ (result ≡ 8) ⊎ (result ≡ 9) }
 
@@ -83,22 +74,12 @@ pub fn skepu<F: Files, O: Sink, E: Sink>(
     ensures writes { (F.holds files.new).writes ≡ (F.holds files.old).writes }
 {
     let Some(name) = asked(words) else {
-        report(alloc, err, b"usage\n");
-        return 2;
+        return tell(alloc, err, b"usage\n", 2);
     };
     match files.read_all(alloc, name, SOURCE_LIMIT) {
         Ok(source) => run_source(alloc, source.as_slice(), out, err),
-        Err(FileAnswer::Failed) => {
-            report_read_fault(alloc, err, name);
-            7
-        }
-        Err(FileAnswer::Long) => {
-            report(alloc, err, b"refused long\n");
-            1
-        }
-        Err(FileAnswer::Memory) => {
-            report(alloc, err, b"memory\n");
-            9
-        }
+        Err(FileAnswer::Failed) => tell_read_fault(alloc, err, name, 7),
+        Err(FileAnswer::Long) => tell(alloc, err, b"refused long\n", 1),
+        Err(FileAnswer::Memory) => tell(alloc, err, b"memory\n", WANT_OF_MEMORY),
     }
 }

@@ -1,5 +1,5 @@
 //! The run of a program of the first form.
-ghost use Rattle.std.specs.Prelude.{◌≡◌, ◌<◌, ◌≤◌, ℕ, ℤ, ◌++◌, ◌∷◌, [], Ok, Some, IfOk, IfSome, length, replicate, All, OnOk, OnErr, IsErrOf, ◌⊎◌};
+ghost use Rattle.std.specs.Prelude.{◌≡◌, ◌⊎◌, ◌≤◌, ◌++◌, ◌∷◌, [], ℤ, replicate, Ok, IfOk, OnOk, OnErr, IsErrOf};
 ghost use Rattle.std.specs.Fmt.{signed_decimal};
 ghost use Rattle.std.specs.Io.KnownBytes.{Appends};
 ghost use Rattle.sk_base.specs.Arithmetic.{InRange};
@@ -7,10 +7,9 @@ ghost use Rattle.sk_base.specs.Arithmetic as arithmetic;
 ghost use Rattle.sk_base.specs.declared.number.Ty.TheVariants.{Int};
 ghost use Rattle.sk_outside.specs.Faults.{Rose};
 ghost use Rattle.sk_outside.specs.Holding.{AppendsPrefix};
-ghost use Rattle.sk_parser.specs.FirstForm.{Holes, AreFine};
 ghost use Rattle.sk_tree.specs.Eager.{eager_of};
 ghost use Rattle.sk_cli.specs.Answer.{statement_limit};
-ghost use Rattle.sk_cli.specs.FirstProgram.{IsFirstProgram, IsFirstOperator, element_in};
+ghost use Rattle.sk_cli.specs.FirstProgram.{IsFirstProgram, IsFirstOperator};
 
 use crate::parts::{Parts, parts_of};
 use itoa::Buffer;

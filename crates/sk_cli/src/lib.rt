@@ -14,3 +14,4 @@ mod report;
 mod words;
 
 pub use command::skepu;
+pub use report::WANT_OF_MEMORY;

@@ -1,15 +1,12 @@
 //! The program `skepu`: makes the real files and streams, and ends with the status of the top call.
 #![tactic(auto)]
 
-use sk_cli::skepu;
+use sk_cli::{WANT_OF_MEMORY, skepu};
 use sk_outside::{HostErr, HostFiles, HostOut};
 use std::alloc::AllocError;
 use std::env;
 use std::process::ExitCode;
 use std::rt::Env;
-
-/// The status of want of memory.
-const WANT_OF_MEMORY: u8 = 9;
 
 fn main(rt: HostRuntime) -> ExitCode {
     let Ok(words) = words_of(&rt) else {

@@ -1,0 +1,10 @@
+use crate::bytes::Text;
+use sk_base::Ty;
+
+/// A container or an input that a program declares. Its kind is its number of sizes, from 1 to 4.
+#[derive(Debug, Drop)]
+pub struct Declared {
+    pub name: Text,
+    pub kind: u8,
+    pub ty: Ty,
+}

@@ -2,7 +2,9 @@
 //!
 //! - `bytes`: names and texts.
 //! - `token`: what a source text is cut into.
+//! - `infix`: operators between two operands, and how tightly they bind.
 //! - `tree`: programs, functions, statements and expressions.
+//! - `names`: what names stand for, and the faults of names and types.
 //! - `declared`: what is told of a program's containers and inputs.
 //! - `operator`: the associative operators.
 //!
@@ -12,12 +14,16 @@
 
 mod bytes;
 mod declared;
+mod infix;
+mod names;
 mod operator;
 mod token;
 mod tree;
 
 pub use bytes::{Name, Text};
 pub use declared::Declared;
+pub use infix::Infix;
+pub use names::{Expected, Fault, FaultKind, Known, Made, Use};
 pub use operator::{Operator, OperatorKind};
 pub use sk_base::{Cell, EdgeMode, Op, Ty};
 pub use token::{Sign, Token, TokenKind};

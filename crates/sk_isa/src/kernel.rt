@@ -1,0 +1,70 @@
+ghost use Rattle.std.specs.Prelude.{◌≡◌, ℕ, ℤ, ◌<◌, length, slice_get, Some, IsSome, IfOk};
+ghost use Rattle.sk_base.specs.Arithmetic.{InRange};
+ghost use Rattle.sk_isa.specs.Kernels.{Source, Meaning, Suits, Agree, AreJoined, IsJoined, NeverTraps, NeverTrapsJoining, given_by};
+
+use sk_base::{Cell, Shape, Trap};
+
+/// Where a function is evaluated: an index, and the index in the second container where a skeleton goes over pairs.
+#[derive(Clone, Copy, PartialEq, Eq, Debug)]
+pub struct At {
+    pub place: u32,
+    pub pair: u32,
+}
+
+/// What a skeleton call works on: containers as operands, counted from 0, and uniform arguments. It may hold a part of
+/// the cells alone.
+pub trait Data {
+    /// What it holds.
+    ghost means: { Self → Source };
+
+    /// A cell of an operand by its row-major index.
+    fn cell(&self, operand: u32, index: u32) -> Cell
+        requires held { IsSome ((means self.now).held operand index) }
+        ensures { (means self.now).held operand index ≡ Some result };
+
+    /// The sizes of an operand.
+    fn shape(&self, operand: u32) -> &Shape
+        requires there { operand < length (means self.now).shapes }
+        ensures { slice_get (means self.now).shapes operand ≡ Some result.now };
+
+    /// A uniform argument.
+    fn uniform(&self, k: u32) -> Cell
+        requires there { k < length (means self.now).uniforms }
+        ensures { slice_get (means self.now).uniforms k ≡ Some result };
+
+    /// The sizes of the container in which indices are counted: the first element argument of a MapReduce, and the result
+    /// of every other skeleton.
+    fn over(&self) -> &Shape
+        requires there { IsSome (means self.now).over }
+        ensures { (means self.now).over ≡ Some result.now };
+}
+
+/// The function and the operator of a skeleton instance. No call takes memory.
+pub trait Kernel {
+    /// What they mean.
+    ghost means: { Self → Meaning };
+
+    /// The function's value, or its first trap. It depends on the cells that the meaning says it may read, the sizes and
+    /// the uniform arguments alone.
+    fn apply<D: Data>(&mut self, source: &D, at: At) -> Result<Cell, Trap>
+        requires suits { Suits (means self.old) (D.means source.now) at.place at.pair }
+        ensures value { (cells : ℕ → ℕ → ℤ) → Agree (means self.old) (D.means source.now) at.place at.pair cells
+            → result ≡ (means self.old).value (given_by (D.means source.now) cells) at.place at.pair }
+        ensures range { IfOk result (InRange (means self.old).ty) }
+        ensures same { means self.new ≡ means self.old };
+
+    /// The operator's value, or its first trap.
+    fn combine(&mut self, a: Cell, b: Cell) -> Result<Cell, Trap>
+        requires joined { AreJoined (means self.old) a b }
+        ensures value { result ≡ (means self.old).join a b }
+        ensures range { IfOk result (IsJoined (means self.old)) }
+        ensures same { means self.new ≡ means self.old };
+
+    /// Whether neither of them ever traps.
+    fn safe(&self) -> bool
+        ensures { result ≡ (means self.now).safe };
+
+    ghost never_traps: { (kernel : Self) → NeverTraps (means kernel) };
+
+    ghost never_traps_joining: { (kernel : Self) → NeverTrapsJoining (means kernel) };
+}

@@ -1,0 +1,6 @@
+use Rattle.sk_codegen.proofs.MeansSource.{means_source}
+use Rattle.sk_codegen.proofs.SoundObjects.{plain_is_sound}
+use Rattle.sk_codegen.proofs.laws.code_means_source.Goals as goal
+
+pub returns : goal.returns
+returns c program plain = means_source program plain (plain_is_sound program plain)

@@ -1,0 +1,6 @@
+use Rattle.sk_codegen.proofs.MeansSource.{runs_as_source}
+use Rattle.sk_codegen.proofs.SoundObjects.{plain_is_sound}
+use Rattle.sk_codegen.proofs.laws.code_runs_as_source.Goals as goal
+
+pub returns : goal.returns
+returns c program plain = runs_as_source program plain (plain_is_sound program plain)

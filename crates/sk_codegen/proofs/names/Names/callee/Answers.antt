@@ -1,0 +1,13 @@
+use Rattle.std.proofs.Common.{◌∙◌, ap}
+use Rattle.std.specs.Option.{option_map}
+use Rattle.sk_tree.specs.Bindings.{bound_to}
+use Rattle.sk_isa.specs.Scheme.{Around}
+use Rattle.sk_codegen.specs.Names.{callee_of}
+use Rattle.sk_codegen.proofs.Tidy.{bound_to-map}
+use Rattle.sk_codegen.proofs.names.Names.callee.Goals as goal
+
+pub returns : goal.returns
+returns c =
+    ap (option_map callee_of) c.find.ensures
+    ∙ bound_to-map callee_of c.args.name.now c.self.inside.functions
+    ∙ ap (λ (around : Around). bound_to c.args.name.now around.functions) c.self.view_is

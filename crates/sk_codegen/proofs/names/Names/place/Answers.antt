@@ -1,0 +1,13 @@
+use Rattle.std.proofs.Common.{◌∙◌, ap}
+use Rattle.std.specs.Option.{option_map}
+use Rattle.sk_tree.specs.Bindings.{bound_to}
+use Rattle.sk_isa.specs.Scheme.{Around}
+use Rattle.sk_codegen.specs.Names.{slot_of}
+use Rattle.sk_codegen.proofs.Tidy.{bound_to-map}
+use Rattle.sk_codegen.proofs.names.Names.place.Goals as goal
+
+pub returns : goal.returns
+returns c =
+    ap (option_map slot_of) c.find.ensures
+    ∙ bound_to-map slot_of c.args.name.now c.self.inside.scope
+    ∙ ap (λ (around : Around). bound_to c.args.name.now around.scope) c.self.view_is

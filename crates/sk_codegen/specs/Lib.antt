@@ -1,0 +1,7 @@
+pub mod Means
+pub mod Names
+pub mod Plain
+pub mod PlainLaws
+pub mod Scopes
+pub mod SourceRuns
+pub mod Written

@@ -1,0 +1,166 @@
+-- An instruction of sound code finds what it needs.
+use Rattle.std.proofs.Common.{◌≡◌, ℕ, zero, suc, ◌<◌, ◌≤◌, ◌+◌, ◌-◌, Bool, true, false, ◌&&◌, ◌||◌, not, if◌then◌else◌, List, [], ◌∷◌, length, take, drop, map, reverse, All, Contains, ℤ, pos, Option, Some, None, IsSomeAnd, slice_get, slice_index_or, refl, sym, ap, subst, ◌∙◌, arith, nat_le}
+use Rattle.std.proofs.lemmas.List.{length-map}
+use Rattle.std.specs.Cmp.{first_so, second_so}
+use Rattle.std.specs.Cmp.Lexicographic.{pointwise}
+use Rattle.std.specs.List.{list_all, list_any}
+use Rattle.std.proofs.lemmas.Option.{slice_get_within}
+use Rattle.sk_base.specs.declared.number.Op.{Op}
+use Rattle.sk_base.specs.declared.number.Ty.{Ty}
+use Rattle.sk_base.specs.Arithmetic.{InRange, is_shift}
+use Rattle.sk_tree.specs.Evaluation.{kind_type}
+use Rattle.sk_tree.specs.Lexemes.{same_bytes}
+use Rattle.sk_tree.specs.declared.tree.ParamKind.{ParamKind}
+use Rattle.sk_tree.specs.declared.tree.ParamKind.TheVariants.{Scalar, Index, Proxy, Region as RegionKind}
+use Rattle.sk_isa.specs.declared.code.Instr.{Instr}
+use Rattle.sk_isa.specs.declared.code.Instr.TheVariants.{Push, Pop, Load, Store, Field, Size, Item, Region, Neg, Inv, Not, Wrap, Binary, Jump, Zero, Turn, Call, Ret, Count, Make, Take, Drop, Set, Do, Get, Poke, Print, Text, Endl, Halt}
+use Rattle.sk_isa.specs.declared.object.Signature.{Signature}
+use Rattle.sk_isa.specs.Kernels.{AreOfTypes}
+use Rattle.sk_isa.specs.Soundness.{Left, Named, fields_of, has_field, is_number, is_scalar, item_type, leads_to, left_by, left_if, left_with, number_type, of_many, of_one, of_two, region_type, scalar_in, serves, left_by_ret}
+use Rattle.sk_isa.proofs.Steps.{left_with_so, scalar_so, item_so, region_so}
+use Rattle.sk_isa.proofs.TypedLists.{typed-length}
+use Rattle.sk_isa.proofs.Values.{served}
+use Rattle.sk_vm.specs.Needs.{Needs}
+use Rattle.sk_vm.specs.Points.{values_in}
+use Rattle.sk_vm.proofs.Values.{length-values_in, values_in-last}
+
+-- the types stand for as many values
+height : (types : List Ty) (stack : List ℤ) (top : ℕ) → AreOfTypes types (values_in stack top) → length types ≡ top
+height types stack top typed = typed-length types (values_in stack top) typed ∙ length-values_in stack top
+
+-- one value is there where one is looked for
+one_there : (types left : List Ty) (next : Ty → List Ty → Left) (stack : List ℤ) (top : ℕ) → of_one types next ≡ Some left
+    → AreOfTypes types (values_in stack top) → 0 < top
+one_there [] left next stack top e typed = cc
+one_there (ty ∷ rest) left next stack top e typed = let tall : suc (length rest) ≡ top = height (ty ∷ rest) stack top typed in omega arith
+
+-- values at the top, with their types
+typed_last : (ty : Ty) (rest : List Ty) (stack : List ℤ) (top : ℕ) → 0 < top → AreOfTypes (ty ∷ rest) (values_in stack top)
+    → InRange ty (slice_index_or stack (top - 1) (pos 0)) × AreOfTypes rest (values_in stack (top - 1))
+typed_last ty rest stack top some typed = subst (λ (values : List ℤ). AreOfTypes (ty ∷ rest) values) (values_in-last stack top some) typed
+
+left_if_so : (test : Bool) (types left : List Ty) → left_if test types ≡ Some left → (test ≡ true) × (types ≡ left)
+left_if_so true types left e = (refl, cc)
+left_if_so false types left e = cc
+
+-- the right operand of an operator, unless it is a count
+right_served : (shift fits : Bool) → (shift || fits) ≡ true → shift ≡ false → fits ≡ true
+right_served true fits e not_shift = cc
+right_served false fits e not_shift = e
+
+operands_there : (op : Op) (ty : Ty) (types left : List Ty) (stack : List ℤ) (top : ℕ) (result : Ty)
+    → of_two types (λ one other rest. left_if (serves one ty && (is_shift op || serves other ty)) (result ∷ rest)) ≡ Some left
+    → AreOfTypes types (values_in stack top)
+    → (1 < top) × InRange ty (slice_index_or stack (top - 2) (pos 0)) × (is_shift op ≡ false → InRange ty (slice_index_or stack (top - 1) (pos 0)))
+operands_there op ty [] left stack top result e typed = cc
+operands_there op ty (other ∷ []) left stack top result e typed = cc
+operands_there op ty (other ∷ one ∷ rest) left stack top result e typed =
+    let tall : suc (suc (length rest)) ≡ top = height (other ∷ one ∷ rest) stack top typed in
+    let two : 1 < top = omega arith in
+    let upper = typed_last other (one ∷ rest) stack top (omega arith) typed in
+    let lower = typed_last one rest stack (top - 1) (omega arith) upper.1 in
+    let below : top - 1 - 1 ≡ top - 2 = omega arith in
+    let test = (left_if_so (serves one ty && (is_shift op || serves other ty)) (result ∷ rest) left e).0 in (
+      two,
+      served one ty _ (first_so (serves one ty) (is_shift op || serves other ty) test)
+          (subst (λ (n : ℕ). InRange one (slice_index_or stack n (pos 0))) below lower.0),
+      λ not_shift. served other ty _ (right_served (is_shift op) (serves other ty) (second_so (serves one ty) (is_shift op || serves other ty) test) not_shift) upper.0,
+    )
+
+-- a scalar slot is there
+slot_there : (named : Named) (slot : ℕ) (ty : Ty) (slots : List ℤ) → scalar_in named slot ≡ Some ty → AreOfTypes (map kind_type named.own.slots) slots → slot < length slots
+slot_there named slot ty slots e typed =
+    let within : slot < length named.own.slots = slice_get_within named.own.slots slot (Scalar ty) (scalar_so (slice_get named.own.slots slot) ty e) in
+    let count : length (map kind_type named.own.slots) ≡ length slots = typed-length (map kind_type named.own.slots) slots typed in
+    omega (arith, length-map named.own.slots kind_type)
+
+-- parameters that are scalars have no fields and no elements
+all_at : (kinds : List ParamKind) (k : ℕ) (kind : ParamKind) → list_all is_scalar kinds ≡ true → slice_get kinds k ≡ Some kind → is_scalar kind ≡ true
+all_at [] k kind all e = cc
+all_at (own ∷ kinds) zero kind all e = let same : own ≡ kind = cc in subst (λ (p : ParamKind). is_scalar p ≡ true) same (first_so (is_scalar own) (list_all is_scalar kinds) all)
+all_at (own ∷ kinds) (suc k) kind all e = all_at kinds k kind (second_so (is_scalar own) (list_all is_scalar kinds) all) e
+
+no_field : (found : Option ParamKind) (name : List ℕ) → ((kind : ParamKind) → found ≡ Some kind → is_scalar kind ≡ true)
+    → elim found [ Some kind ↦ list_any (same_bytes name) (fields_of kind) | None ↦ false ] ≡ true → ⊥
+no_field None name scalars e = cc
+no_field (Some (Scalar ty)) name scalars e = cc
+no_field (Some (Index dimension)) name scalars e = let not_so : false ≡ true = scalars (Index dimension) refl in cc
+no_field (Some (Proxy dimension ty)) name scalars e = let not_so : false ≡ true = scalars (Proxy dimension ty) refl in cc
+no_field (Some (RegionKind dimension ty)) name scalars e = let not_so : false ≡ true = scalars (RegionKind dimension ty) refl in cc
+
+many_there : (count : ℕ) (types left : List Ty) (next : List Ty → List Ty → Left) → of_many count types next ≡ Some left
+    → next (reverse (take count types)) (drop count types) ≡ Some left
+many_there count types left next e = pick (nat_le count (length types)) e
+  where
+    pick : (enough : Bool) → (if enough then next (reverse (take count types)) (drop count types) else None) ≡ Some left
+        → next (reverse (take count types)) (drop count types) ≡ Some left
+    pick true e = e
+    pick false e = cc
+
+no_item : (named : Named) (slot places : ℕ) (rest left : List Ty) → list_all is_scalar named.own.params ≡ true
+    → left_with (item_type named slot places) rest ≡ Some left → ⊥
+no_item named slot places rest left scalars e =
+    let with = left_with_so (item_type named slot places) rest left e in
+    let found = item_so (slice_get named.own.params slot) places with.0 with.1 in
+    let scalar : false ≡ true = all_at named.own.params slot (Proxy found.0 with.0) scalars found.1 in
+    cc
+
+no_region : (named : Named) (slot places : ℕ) (rest left : List Ty) → list_all is_scalar named.own.params ≡ true
+    → left_with (region_type named slot places) rest ≡ Some left → ⊥
+no_region named slot places rest left scalars e =
+    let with = left_with_so (region_type named slot places) rest left e in
+    let found = region_so (slice_get named.own.params slot) places with.0 with.1 in
+    let scalar : false ≡ true = all_at named.own.params slot (RegionKind found.0 with.0) scalars found.1 in
+    cc
+
+returns_one : (ret : Ty) (types left : List Ty) (stack : List ℤ) (top : ℕ) → left_by_ret ret types ≡ Some left → AreOfTypes types (values_in stack top) → 0 < top
+returns_one ret [] left stack top e typed = cc
+returns_one ret (ty ∷ rest) left stack top e typed = let tall : suc (length rest) ≡ top = height (ty ∷ rest) stack top typed in omega arith
+
+-- there is room for one value more where an instruction leaves one more
+room_for : (types left : List Ty) (ty : Ty) (stack : List ℤ) (top : ℕ) → ty ∷ types ≡ left → AreOfTypes types (values_in stack top) → length left ≤ length stack → top < length stack
+room_for types left ty stack top e typed room =
+    let tall = height types stack top typed in
+    let one_more : suc (length types) ≡ length left = ap length e in
+    omega arith
+
+-- what the types say is there
+pub needs_met : (named : Named) (instr : Instr) (at : ℕ) (types left : List Ty) (stack slots : List ℤ) (top : ℕ)
+    → list_all is_scalar named.own.params ≡ true → left_by named instr types ≡ Some left
+    → AreOfTypes types (values_in stack top) → AreOfTypes (map kind_type named.own.slots) slots
+    → ((to : ℕ) → Contains (leads_to instr at) to → length left ≤ length stack)
+    → Needs instr top stack slots
+needs_met named (Push number) at types left stack slots top scalars e typed kept room =
+    room_for types left (number_type number) stack top (left_if_so (is_number number) (number_type number ∷ types) left e).1 typed (room (suc at) (0, omega arith, refl))
+needs_met named Pop at types left stack slots top scalars e typed kept room = one_there types left _ stack top e typed
+needs_met named (Load slot) at types left stack slots top scalars e typed kept room =
+    let with = left_with_so (scalar_in named slot) types left e in
+    (slot_there named slot with.0 slots with.1 kept, room_for types left with.0 stack top with.2 typed (room (suc at) (0, omega arith, refl)))
+needs_met named (Store slot) at types left stack slots top scalars e typed kept room = (by types e, one_there types left _ stack top e typed)
+  where
+    stored_in : (found : Option Ty) (ty : Ty) (rest : List Ty) → scalar_in named slot ≡ found
+        → elim found [ Some wanted ↦ left_if (serves ty wanted) rest | None ↦ None ] ≡ Some left → slot < length slots
+    stored_in None ty rest is e = cc
+    stored_in (Some wanted) ty rest is e = slot_there named slot wanted slots is kept
+
+    by : (types : List Ty) → of_one types (λ ty rest. elim (scalar_in named slot) [ Some wanted ↦ left_if (serves ty wanted) rest | None ↦ None ]) ≡ Some left
+        → slot < length slots
+    by [] e = cc
+    by (ty ∷ rest) e = stored_in (scalar_in named slot) ty rest refl e
+needs_met named (Neg ty) at types left stack slots top scalars e typed kept room = one_there types left _ stack top e typed
+needs_met named (Inv ty) at types left stack slots top scalars e typed kept room = one_there types left _ stack top e typed
+needs_met named Not at types left stack slots top scalars e typed kept room = one_there types left _ stack top e typed
+needs_met named Wrap at types left stack slots top scalars e typed kept room = one_there types left _ stack top e typed
+needs_met named (Binary op ty) at types left stack slots top scalars e typed kept room = operands_there op ty types left stack top _ e typed
+needs_met named (Jump to) at types left stack slots top scalars e typed kept room = tt
+needs_met named (Zero to) at types left stack slots top scalars e typed kept room = one_there types left _ stack top e typed
+needs_met named Turn at types left stack slots top scalars e typed kept room = tt
+needs_met named (Call function) at types left stack slots top scalars e typed kept room = tt
+needs_met named Ret at types left stack slots top scalars e typed kept room = returns_one named.own.ret types left stack top e typed
+needs_met named (Field slot name) at types left stack slots top scalars e typed kept room =
+    no_field (slice_get named.own.params slot) name (λ kind is. all_at named.own.params slot kind scalars is) (left_if_so (has_field named slot name) _ left e).0
+needs_met named (Item slot places) at types left stack slots top scalars e typed kept room =
+    no_item named slot places _ left scalars (many_there places types left (λ given rest. left_with (item_type named slot places) rest) e)
+needs_met named (Region slot places) at types left stack slots top scalars e typed kept room =
+    no_region named slot places _ left scalars (many_there places types left (λ given rest. left_with (region_type named slot places) rest) e)
+needs_met named instr at types left stack slots top scalars e typed kept room = cc

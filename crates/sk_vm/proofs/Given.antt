@@ -1,0 +1,77 @@
+-- The value of a function that was begun with arguments from data.
+use Rattle.std.proofs.Common.{◌≡◌, ℕ, suc, ◌-◌, ◌<◌, ◌≤◌, true, List, ◌++◌, length, take, drop, map, replicate, ℤ, pos, Some, Result, Ok, Err, IfOk, slice_get, sym, ap, subst, ◌∙◌, arith}
+use Rattle.std.specs.List.{list_all}
+use Rattle.std.proofs.lemmas.List.{length-take-le}
+use Rattle.sk_base.specs.declared.number.Trap.{Trap}
+use Rattle.sk_base.specs.declared.number.Ty.{Ty}
+use Rattle.sk_base.specs.Arithmetic.{InRange}
+use Rattle.sk_tree.specs.Evaluation.{Argument, Value, turn_limit, value_only}
+use Rattle.sk_isa.specs.declared.code.Code.{Code}
+use Rattle.sk_isa.specs.declared.object.Object.{Object}
+use Rattle.sk_isa.specs.declared.object.Signature.{Signature}
+use Rattle.sk_isa.specs.Coded.{function_of}
+use Rattle.sk_isa.specs.Instances.{Reading, function_meaning, invoked, signature_at}
+use Rattle.sk_isa.specs.Kernels.{Agree, Source, Suits, given_by}
+use Rattle.sk_isa.specs.Soundness.{IsSound, SuitParams, TakesScalars, is_scalar}
+use Rattle.sk_isa.specs.Steps.{IsGiven}
+use Rattle.sk_isa.proofs.Callees.{functions_have_values}
+use Rattle.sk_vm.specs.Arguments.{CanPass, Passes}
+use Rattle.sk_vm.specs.Rooms.{Begins, given_to, slots_at}
+use Rattle.sk_vm.proofs.Arguments.{can_pass, suited, as_defined}
+use Rattle.sk_vm.proofs.Middle.{params_scalar, scalar_slots}
+use Rattle.sk_vm.proofs.Starts.{signature_at-is, there}
+
+-- the parameters of each function are scalars, and at most 64
+pub scalars_only : (object : Object) → IsSound object → TakesScalars object → (function : ℕ) → function < length object.functions
+    → (list_all is_scalar (signature_at object function).params ≡ true) × (length (signature_at object function).params ≤ 64)
+scalars_only object sound scalars function within =
+    let count : length object.signatures ≡ suc (length object.functions) = sound.signatures in
+    let code = there object.functions function within in
+    let own = there object.signatures function (omega arith) in
+    let is_sound = sound.functions function code.0 own.0 code.1 own.1 in
+    let P : Signature → Type 0 = λ s. (list_all is_scalar s.params ≡ true) × (length s.params ≤ 64) in
+    subst P (sym (signature_at-is object function own.0 own.1))
+    (params_scalar own.0.params own.0.slots is_sound.slots (scalar_slots object function own.0 scalars own.1), is_sound.params)
+
+-- a value is of the function's type
+pub value-in_range : (object : Object) → IsSound object → (function : ℕ) → function < length object.functions → (arguments : List Argument)
+    → SuitParams (signature_at object function).params arguments → (value : ℤ) (left : ℕ) → function_of object function arguments turn_limit ≡ Ok (value, left)
+    → InRange (signature_at object function).ret value
+value-in_range object sound function within arguments suits value left is =
+    let count : length object.signatures ≡ suc (length object.functions) = sound.signatures in
+    let code = there object.functions function within in
+    let own = there object.signatures function (omega arith) in
+    let same = signature_at-is object function own.0 own.1 in
+    let given = ((functions_have_values object sound).values function own.0 code.0 arguments turn_limit own.1 code.1
+    (subst (λ (s : Signature). SuitParams s.params arguments) same suits)).given in
+    subst (λ (s : Signature). InRange s.ret value) (sym same)
+    (subst (λ (r : Result (ℤ × ℕ) Trap). IsGiven own.0.ret turn_limit r) is given).0
+
+-- data that suits a function
+module _ (object : Object) (sound : IsSound object) (scalars : TakesScalars object) (function : ℕ) (within : function < length object.functions) (reading : Reading)
+    (source : Source) (place pair : ℕ) (suits : Suits (function_meaning object function reading) source place pair) where
+  pub passable : CanPass source reading.elements reading.pairs place pair (length (signature_at object function).params)
+  passable = can_pass (signature_at object function).params reading.elements reading.pairs source place pair (scalars_only object sound scalars function within).0 suits.uniforms suits.held
+
+  module _ (slots : List ℤ) (fit : length (signature_at object function).params ≤ length slots)
+      (passes : Passes source reading.elements reading.pairs place pair (given_to object function slots)) where
+    count : length (signature_at object function).params ≡ length (given_to object function slots)
+    count = sym (length-take-le (length (signature_at object function).params) slots fit)
+
+    pub given_suit : SuitParams (signature_at object function).params (map Value (given_to object function slots))
+    given_suit =
+        suited (signature_at object function).params reading.elements reading.pairs source place pair (scalars_only object sound scalars function within).0 suits.uniforms suits.held
+        (given_to object function slots) count passes
+
+    pub begins_given : length slots ≡ slots_at object.functions function
+        → drop (length (signature_at object function).params) slots ≡ replicate (length slots - length (signature_at object function).params) (pos 0)
+        → Begins object function slots
+    begins_given size others = record { count = size; suited = given_suit; others = others }
+
+    pub value_given : (cells : ℕ → ℕ → ℤ) → Agree (function_meaning object function reading) source place pair cells
+        → value_only (function_of object function (map Value (given_to object function slots)) turn_limit)
+        ≡ (function_meaning object function reading).value (given_by source cells) place pair
+    value_given cells agree =
+        ap (λ (arguments : List Argument). invoked object function arguments)
+        (as_defined (signature_at object function).params reading.elements reading.pairs source place pair (scalars_only object sound scalars function within).0 suits.uniforms suits.held
+        (given_to object function slots) count passes cells agree)

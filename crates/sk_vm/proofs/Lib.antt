@@ -1,0 +1,10 @@
+pub mod Arguments
+pub mod Arms
+pub mod Calls
+pub mod Finds
+pub mod Given
+pub mod Lawful
+pub mod Middle
+pub mod Running
+pub mod Starts
+pub mod Values

@@ -1,0 +1,180 @@
+-- What the types say in the middle of a run.
+use Rattle.std.proofs.Common.{◌≡◌, ℕ, zero, suc, ◌+◌, ◌-◌, ◌<◌, ◌≤◌, true, false, Bool, ◌&&◌, List, [], ◌∷◌, length, take, drop, map, reverse, All, Contains, ℤ, Option, Some, None, Result, IsSomeAnd, slice_get, slice_index_or, refl, sym, ap, subst, ◌∙◌, arith}
+use Rattle.std.specs.List.{list_all}
+use Rattle.std.specs.Cmp.{first_so, second_so}
+use Rattle.std.specs.Cmp.Lexicographic.{pointwise}
+use Rattle.std.proofs.lemmas.Option.{get_or_from_slice_get, same_Some, slice_get_within}
+use Rattle.sk_base.specs.declared.number.Trap.{Trap}
+use Rattle.sk_base.specs.declared.number.Ty.{Ty}
+use Rattle.sk_tree.specs.Evaluation.{Argument, Value}
+use Rattle.sk_tree.specs.declared.tree.ParamKind.{ParamKind}
+use Rattle.sk_tree.specs.declared.tree.ParamKind.TheVariants.{Scalar, Index, Proxy, Region}
+use Rattle.sk_isa.specs.declared.code.Code.{Code}
+use Rattle.sk_isa.specs.declared.code.Instr.{Instr}
+use Rattle.sk_isa.specs.declared.code.Instr.TheVariants.{Call}
+use Rattle.sk_isa.specs.declared.object.Object.{Object}
+use Rattle.sk_isa.specs.declared.object.Signature.{Signature}
+use Rattle.sk_isa.specs.Coded.{function_of, next_of, returning}
+use Rattle.sk_isa.specs.Instances.{signature_at}
+use Rattle.sk_isa.specs.Kernels.{AreOfTypes}
+use Rattle.sk_isa.specs.Soundness.{AreSlots, IsFineAt, IsSound, Named, SuitParams, TakesScalars, Types, is_scalar, leads_to, left_by, serves}
+use Rattle.sk_isa.proofs.TypedLists.{typed-length}
+use Rattle.sk_vm.specs.declared.stack.Stand.{Stand}
+use Rattle.sk_vm.specs.Needs.{Needs}
+use Rattle.sk_vm.specs.Points.{values_in, point_at, led_to}
+use Rattle.sk_vm.specs.Rooms.{depth_at, depth_below, slots_below}
+use Rattle.sk_vm.proofs.Calls.{FindsCall, call_found, calls-next, passed, depth_below-le, slots_below-le}
+use Rattle.sk_vm.proofs.Finds.{needs_met}
+use Rattle.sk_vm.proofs.Running.{Running, routine_at}
+use Rattle.sk_vm.proofs.Starts.{signature_at-is}
+use Rattle.sk_vm.proofs.Values.{length-values_in}
+
+pointwise-length : (given wanted : List Ty) → pointwise serves given wanted ≡ true → length given ≡ length wanted
+pointwise-length [] [] e = refl
+pointwise-length [] (ty ∷ wanted) e = cc
+pointwise-length (ty ∷ given) [] e = cc
+pointwise-length (ty ∷ given) (want ∷ wanted) e = ap suc (pointwise-length given wanted (second_so (serves ty want) (pointwise serves given wanted) e))
+
+-- the instruction at the address, with the types before and behind it
+pub record Here (named : Named) (code : Code) (instr : Instr) (at : ℕ) (types : List Ty) : Type 0 where
+  pub bounded : length types ≤ code.depth
+  pub left : List Ty
+  pub effect : left_by named instr types ≡ Some left
+  pub behind : (to : ℕ) → Contains (leads_to instr at) to → length left ≤ code.depth
+
+here_at : (named : Named) (code : Code) (chosen : Types) (instr : Instr) (at : ℕ) (types : List Ty)
+    → ((at : ℕ) (types : List Ty) → chosen at ≡ Some types → IsFineAt named code chosen at types)
+    → IsFineAt named code chosen at types → slice_get code.instrs at ≡ Some instr → Here named code instr at types
+here_at named code chosen instr at types each fine found =
+    subst (λ (i : Instr). Here named code i at types) (same_Some fine.instr instr (sym fine.found ∙ found))
+    (record { bounded = fine.bounded; left = fine.left; effect = fine.effect; behind = λ to led. reached to (at_target to led) })
+  where
+    at_target : (to : ℕ) → Contains (leads_to fine.instr at) to → IsSomeAnd (chosen to) (λ after. pointwise serves fine.left after ≡ true)
+    at_target to led =
+        subst (λ (n : ℕ). IsSomeAnd (chosen n) (λ after. pointwise serves fine.left after ≡ true)) led.2 (fine.leads led.0 to led.1)
+
+    after : (to : ℕ) (found : Option (List Ty)) → chosen to ≡ found → IsSomeAnd found (λ after. pointwise serves fine.left after ≡ true) → length fine.left ≤ code.depth
+    after to None is h = absurd h
+    after to (Some wanted) is h =
+        let count = pointwise-length fine.left wanted h in
+        let upto = (each to wanted is).bounded in
+        omega arith
+
+    reached : (to : ℕ) → IsSomeAnd (chosen to) (λ after. pointwise serves fine.left after ≡ true) → length fine.left ≤ code.depth
+    reached to h = after to (chosen to) refl h
+
+pub params_scalar : (params slots : List ParamKind) → AreSlots params slots → list_all is_scalar slots ≡ true → list_all is_scalar params ≡ true
+params_scalar [] slots are e = refl
+params_scalar (param ∷ params) [] are e = absurd are
+params_scalar (param ∷ params) (slot ∷ slots) are e =
+    both (is_scalar param) (list_all is_scalar params)
+    (subst (λ (kind : ParamKind). is_scalar kind ≡ true) (sym are.0) (first_so (is_scalar slot) (list_all is_scalar slots) e))
+    (params_scalar params slots are.1 (second_so (is_scalar slot) (list_all is_scalar slots) e))
+  where
+    both : (a b : Bool) → a ≡ true → b ≡ true → (a && b) ≡ true
+    both true b e f = f
+    both false b e f = cc
+
+pub scalar_slots : (object : Object) (function : ℕ) (own : Signature) → TakesScalars object → slice_get object.signatures function ≡ Some own → list_all is_scalar own.slots ≡ true
+scalar_slots object function own scalars is =
+    subst (λ (s : Signature). list_all is_scalar s.slots ≡ true) (get_or_from_slice_get object.signatures function own own is)
+    (scalars function own (slice_get_within object.signatures function own is))
+
+depth-is : (object : Object) (function : ℕ) (code : Code) → slice_get object.functions function ≡ Some code → depth_at object.functions function ≡ code.depth
+depth-is object function code is = ap (λ (o : Option Code). elim o [ Some code ↦ code.depth | None ↦ 0 ]) is
+
+-- a run in the middle, with an instruction of its address
+module _ (object : Object) (function : ℕ) (begun : List ℤ) (turns : ℕ) (instrs : List Instr) (stand : Stand) (stack slots : List ℤ)
+    (running : Running object function begun turns instrs stand stack slots) where
+  abbrev named : Named
+  named = record { signatures = object.signatures; function = function; own = running.own }
+
+  pub within : stand.at < length instrs
+  within =
+      let fine = running.sound.types.each stand.at running.point.types running.point.there in
+      let inside = slice_get_within running.code.instrs stand.at fine.instr fine.found in
+      subst (λ (is : List Instr). stand.at < length is) (sym running.instrs_are) inside
+
+  tall : length running.point.types ≡ stand.top
+  tall = typed-length running.point.types (values_in stack stand.top) running.point.stack ∙ length-values_in stack stand.top
+
+  deep : running.code.depth + depth_below object.functions function ≡ depth_below object.functions (suc function)
+  deep = let is = depth-is object function running.code running.code_at in omega arith
+
+  pub inside : depth_below object.functions (suc function) ≤ length stack → stand.top ≤ length stack
+  inside room =
+      let fine = running.sound.types.each stand.at running.point.types running.point.there in
+      let upto = fine.bounded in
+      let high = tall in
+      let low = deep in
+      omega arith
+
+  here : (instr : Instr) → slice_get instrs stand.at ≡ Some instr → Here named running.code instr stand.at running.point.types
+  here instr found =
+      here_at named running.code running.sound.types.chosen instr stand.at running.point.types running.sound.types.each
+      (running.sound.types.each stand.at running.point.types running.point.there)
+      (ap (λ (is : List Instr). slice_get is stand.at) (sym running.instrs_are) ∙ found)
+
+  pub needs : (instr : Instr) → TakesScalars object → slice_get instrs stand.at ≡ Some instr → depth_below object.functions (suc function) ≤ length stack
+      → Needs instr stand.top stack slots
+  needs instr scalars found room =
+      let at = here instr found in
+      let low = deep in
+      needs_met named instr stand.at running.point.types at.left stack slots stand.top
+      (params_scalar running.own.params running.own.slots running.sound.slots (scalar_slots object function running.own scalars running.own_at))
+      at.effect running.point.stack running.point.slots
+      (λ to led. let upto = at.behind to led in omega arith)
+
+  -- what a call needs
+  pub record CallReady (callee rest : ℕ) : Type 0 where
+    pub before : callee < function
+    pub there : callee < length object.functions
+    pub takes : length (signature_at object callee).params ≤ stand.top
+    pub suited : SuitParams (signature_at object callee).params (map Value (reverse (take (length (signature_at object callee).params) (values_in stack stand.top))))
+    pub value : stand.top < length stack + length (signature_at object callee).params
+    pub depth : depth_below object.functions (suc callee) + stand.top ≤ length stack + length (signature_at object callee).params
+    pub room : slots_below object.functions (suc callee) ≤ rest
+
+  pub call_ready : (callee rest : ℕ) → function < length object.functions → slice_get instrs stand.at ≡ Some (Call callee)
+      → depth_below object.functions (suc function) ≤ length stack → slots_below object.functions function ≤ rest → CallReady callee rest
+  call_ready callee rest upto found deep_enough wide_enough =
+      let at = here (Call callee) found in
+      let finds = call_found named callee running.point.types at.left (values_in stack stand.top) at.effect running.point.stack in
+      let is = signature_at-is object callee finds.own finds.is_own in
+      let params : length (signature_at object callee).params ≡ length finds.own.params = ap (λ (s : Signature). length s.params) is in
+      let size = length-values_in stack stand.top in
+      let enough = finds.enough in
+      let height = finds.height in
+      let before = finds.before in
+      let behind = at.behind (suc stand.at) (0, omega arith, refl) in
+      let low = deep in
+      let below = depth_below-le object.functions (suc callee) function (omega arith) in
+      let bounded = at.bounded in
+      let high = tall in
+      record {
+        before = finds.before;
+        there = omega arith;
+        takes = omega arith;
+        suited = subst (λ (s : Signature). SuitParams s.params (map Value (reverse (take (length s.params) (values_in stack stand.top))))) (sym is) finds.suited;
+        value = omega arith;
+        depth = omega arith;
+        room = let slots = slots_below-le object.functions (suc callee) function (omega arith) in omega arith;
+      }
+
+  -- where a call leads, by what it gave
+  pub call_leads : IsSound object → (callee rest : ℕ) → CallReady callee rest → function < length object.functions → (instr : Instr) → instr ≡ Call callee
+      → (stack_then slots_then after : List ℤ) → stack_then ≡ stack → slots_then ≡ slots → (result : Result Stand Trap)
+      → led_to result after slots_then
+      ≡ returning (point_at stand stack_then slots_then) (drop (length (signature_at object callee).params) (values_in stack_then stand.top))
+      (function_of object callee (map Value (passed object callee stack_then stand.top)) stand.turns)
+      → next_of (routine_at object function running.code begun) instr (point_at stand stack slots) ≡ led_to result after slots_then
+  call_leads sound callee rest ready upto instr is stack_then slots_then after same_stack same_slots result led =
+      let size = length-values_in stack stand.top in
+      let takes = ready.takes in
+      ap (λ (i : Instr). next_of (routine_at object function running.code begun) i (point_at stand stack slots)) is
+      ∙ calls-next object sound function callee (omega arith) ready.before (routine_at object function running.code begun) refl (point_at stand stack slots) (omega arith)
+      ∙ ap (λ (xs : List ℤ). returning (point_at stand xs slots) (drop (length (signature_at object callee).params) (values_in xs stand.top))
+      (function_of object callee (map Value (passed object callee xs stand.top)) stand.turns)) (sym same_stack)
+      ∙ ap (λ (xs : List ℤ). returning (point_at stand stack_then xs) (drop (length (signature_at object callee).params) (values_in stack_then stand.top))
+      (function_of object callee (map Value (passed object callee stack_then stand.top)) stand.turns)) (sym same_slots)
+      ∙ sym led

@@ -1,0 +1,6 @@
+pub mod Arguments
+pub mod Frames
+pub mod Instantiated
+pub mod Needs
+pub mod Points
+pub mod Rooms

@@ -1,0 +1,137 @@
+ghost use Rattle.std.specs.Prelude.{◌≡◌, ℕ, ℤ, ◌<◌, ◌≤◌, ◌^◌, suc, false, List, [], ◌∷◌, length, IfOk};
+ghost use Rattle.sk_base.specs.Arithmetic.{InRange};
+ghost use Rattle.sk_isa.specs.Instances.{function_meaning, invoked, signature_at};
+ghost use Rattle.sk_isa.specs.Kernels.{Suits, Agree, given_by};
+ghost use Rattle.sk_isa.specs.Soundness.{IsSound, SuitParams, TakesScalars};
+ghost use Rattle.sk_tree.specs.Evaluation.{Value};
+ghost use Rattle.sk_vm.specs.Frames.{HasRoom, IsUnread};
+ghost use Rattle.sk_vm.specs.Rooms.{depth_below, slots_below};
+
+use crate::start::{Reading, start, start_with};
+use sk_base::{Cell, Trap};
+use sk_isa::{At, Code, Data, Object};
+use std::alloc::{AllocError, Global};
+use std::marker::Model;
+
+/// Room to run a function of a compiled program, for as many runs as are wanted.
+#[derive(Debug, Drop)]
+pub struct Frame {
+    function: u32,
+    elements: u32,
+    pairs: bool,
+    stack: Vec<Cell>,
+    slots: Vec<Cell>,
+}
+
+impl Model for Frame {
+    ghost use Rattle.std.specs.Prelude.{vec_len};
+    ghost use Rattle.sk_vm.specs.Frames.{Framed};
+
+    ghost Value = { Framed };
+
+    ghost view = { λ f. record {
+      function = f.function;
+      reading = record { elements = f.elements; pairs = f.pairs };
+      stack = vec_len f.stack;
+      slots = vec_len f.slots;
+    } };
+}
+
+impl Frame {
+    /// A frame for a function, with room for all calls below it. All its parameters are uniform arguments.
+    ///
+    /// It takes as much room as the functions up to this one have together.
+    pub fn new(alloc: Global, object: &Object, function: u32) -> Result<Frame, AllocError>
+        requires sound { IsSound object.now }
+        requires scalars { TakesScalars object.now }
+        requires there { function < length object.now.functions }
+        ensures made { IfOk result (IsUnread function) }
+        ensures room { IfOk result (HasRoom object.now) }
+    {
+        let room = room_below(object.functions.as_slice(), function as usize + 1);
+        Ok(Frame {
+            function,
+            elements: 0,
+            pairs: false,
+            stack: vec![in alloc; 0; room.stack]?,
+            slots: vec![in alloc; 0; room.slots]?,
+        })
+    }
+
+    /// Sets how parameters are read: the first `n` from operands 0 to n - 1, each at the place, and the others as uniform
+    /// arguments. With `pairs` operand 1 is read at the pair.
+    pub fn elements(&mut self, n: u32, pairs: bool)
+        ensures { self.new ≡ record self.old { reading = record { elements = n; pairs = pairs } } }
+    {
+        self.elements = n;
+        self.pairs = pairs;
+    }
+
+    /// The function's value for the data at a place, or its first trap. It takes no memory.
+    pub fn run<D: Data>(&mut self, object: &Object, source: &D, at: At) -> Result<Cell, Trap>
+        requires sound { IsSound object.now }
+        requires scalars { TakesScalars object.now }
+        requires room { HasRoom object.now self.old }
+        requires suits { Suits (function_meaning object.now self.old.function self.old.reading) (D.means source.now) at.place at.pair }
+        ensures value { (cells : ℕ → ℕ → ℤ)
+            → Agree (function_meaning object.now self.old.function self.old.reading) (D.means source.now) at.place at.pair cells
+            → result ≡ (function_meaning object.now self.old.function self.old.reading).value (given_by (D.means source.now) cells) at.place at.pair }
+        ensures range { IfOk result (InRange (function_meaning object.now self.old.function self.old.reading).ty) }
+        ensures same { self.new ≡ self.old }
+    {
+        let reading = Reading {
+            elements: self.elements,
+            pairs: self.pairs,
+        };
+        start(
+            object,
+            self.function,
+            reading,
+            source,
+            at,
+            &mut self.stack,
+            &mut self.slots,
+        )
+    }
+
+    /// The function's value for two numbers, or its first trap. It takes no memory.
+    pub fn run_with(&mut self, object: &Object, a: Cell, b: Cell) -> Result<Cell, Trap>
+        requires sound { IsSound object.now }
+        requires scalars { TakesScalars object.now }
+        requires room { HasRoom object.now self.old }
+        requires suits { SuitParams (signature_at object.now self.old.function).params (Value a ∷ Value b ∷ []) }
+        ensures value { result ≡ invoked object.now self.old.function (Value a ∷ Value b ∷ []) }
+        ensures range { IfOk result (InRange (signature_at object.now self.old.function).ret) }
+        ensures same { self.new ≡ self.old }
+    {
+        start_with(
+            object,
+            self.function,
+            a,
+            b,
+            &mut self.stack,
+            &mut self.slots,
+        )
+    }
+}
+
+#[derive(Clone, Copy)]
+struct Room {
+    stack: usize,
+    slots: usize,
+}
+
+/// The room of so many functions together.
+fn room_below(codes: &[Code], count: usize) -> Room
+    requires within { count ≤ length codes.now }
+    requires few { count ≤ 2 ^ 32 }
+    ensures stack { result.stack ≡ depth_below codes.now count }
+    ensures slots { result.slots ≡ slots_below codes.now count }
+{
+    let mut room = Room { stack: 0, slots: 0 };
+    for k in 0..count {
+        room.stack += codes[k].depth as usize;
+        room.slots += codes[k].slots as usize;
+    }
+    room
+}

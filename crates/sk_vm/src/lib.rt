@@ -1,0 +1,23 @@
+//! The machine that runs compiled functions.
+//!
+//! - `coded`: an instance as a kernel.
+//! - `frame`: room to run one function, made once and used for every run.
+//! - `start`: a function with its arguments.
+//! - `run`: the run of a function from its first address to its end.
+//! - `step`: what one instruction does.
+//! - `stack`: values that stand on one another in a buffer.
+//! - `parts`: what is read of a compiled program.
+//!
+//! A run takes no memory. No test is made at run time for what sound code always has: operands, slots and targets.
+#![tactic(auto)]
+
+mod coded;
+mod frame;
+mod parts;
+mod run;
+mod stack;
+mod start;
+mod step;
+
+pub use coded::Coded;
+pub use frame::Frame;

@@ -1,0 +1,113 @@
+ghost use Rattle.std.specs.Prelude.{◌≡◌, ℕ, ℤ, ◌<◌, ◌≤◌, ◌+◌, ◌-◌, ◌^◌, suc, pos, List, ◌∷◌, ◌++◌, length, take, drop, map, reverse, replicate};
+ghost use Rattle.sk_isa.specs.Coded.{function_of, returning};
+ghost use Rattle.sk_isa.specs.Instances.{signature_at};
+ghost use Rattle.sk_isa.specs.Soundness.{IsSound, TakesScalars, SuitParams};
+ghost use Rattle.sk_tree.specs.Evaluation.{Value};
+ghost use Rattle.sk_vm.specs.Rooms.{depth_below, slots_below, given_to, Begins};
+ghost use Rattle.sk_vm.specs.Points.{values_in, point_at, led_to};
+
+use crate::parts::{instr_at, instrs, param_count, slot_count};
+use crate::stack::Stand;
+use crate::step::{Lead, step};
+use sk_base::{Cell, Trap};
+use sk_isa::Object;
+
+/// Runs a function whose arguments stand in its slots, and gives its value beside the turns that are then left.
+///
+/// The values of the calls below stand in `stack` and in `rest`.
+#[cycle(run)]
+pub fn run_code(
+    object: &Object,
+    function: u32,
+    stack: &mut [Cell],
+    slots: &mut [Cell],
+    rest: &mut [Cell],
+    turns: u32,
+) -> Result<(Cell, u32), Trap>
+    requires sound { IsSound object.now }
+    requires scalars { TakesScalars object.now }
+    requires there { function < length object.now.functions }
+    requires begins { Begins object.now function slots.old }
+    requires depth { depth_below object.now.functions (suc function) ≤ length stack.old }
+    requires room { slots_below object.now.functions function ≤ length rest.old }
+    ensures { result ≡ function_of object.now function (map Value (given_to object.now function slots.old)) turns }
+{
+    let instrs = instrs(object, function);
+    let mut stand = Stand {
+        at: 0,
+        top: 0,
+        turns,
+    };
+    loop {
+        match step(instr_at(instrs, stand.at), stand, stack, slots) {
+            Lead::Goes(next) => stand = next,
+            Lead::Ends(value, left) => return Ok((value, left)),
+            Lead::Traps(trap) => return Err(trap),
+            Lead::Calls(callee) => match called(object, callee, stand, stack, rest) {
+                Ok(next) => stand = next,
+                Err(trap) => return Err(trap),
+            },
+        }
+    }
+}
+
+/// Calls a function with the topmost values, and puts its value in their place.
+#[cycle(run)]
+fn called(
+    object: &Object,
+    callee: u32,
+    stand: Stand,
+    stack: &mut [Cell],
+    rest: &mut [Cell],
+) -> Result<Stand, Trap>
+    requires sound { IsSound object.now }
+    requires scalars { TakesScalars object.now }
+    requires there { callee < length object.now.functions }
+    requires address { stand.at + 1 < 2 ^ 64 }
+    requires inside { stand.top ≤ length stack.old }
+    requires takes { length (signature_at object.now callee).params ≤ stand.top }
+    requires suited { SuitParams (signature_at object.now callee).params (map Value (reverse (take (length (signature_at object.now callee).params) (values_in stack.old stand.top)))) }
+    requires value { stand.top < length stack.old + length (signature_at object.now callee).params }
+    requires depth { depth_below object.now.functions (suc callee) + stand.top ≤ length stack.old + length (signature_at object.now callee).params }
+    requires room { slots_below object.now.functions (suc callee) ≤ length rest.old }
+    ensures { let takes = length (signature_at object.now callee).params in
+        let values = values_in stack.old stand.top in
+        (slots : List ℤ) → led_to result stack.new slots
+        ≡ returning (point_at stand stack.old slots) (drop takes values) (function_of object.now callee (map Value (reverse (take takes values))) stand.turns) }
+{
+    let takes = param_count(object, callee);
+    let base = stand.top - takes;
+    let (slots, below) = rest.split_at_mut(slot_count(object, callee));
+    let (_, free) = stack.split_at_mut(base);
+    enter(&free[..takes], slots);
+    match run_code(object, callee, free, slots, below, stand.turns) {
+        Ok((value, turns)) => {
+            free[0] = value;
+            Ok(Stand {
+                at: stand.at + 1,
+                top: base + 1,
+                turns,
+            })
+        }
+        Err(trap) => Err(trap),
+    }
+}
+
+/// Gives slots their values at the start of a function: arguments, and then 0.
+pub fn enter(arguments: &[Cell], slots: &mut [Cell])
+    requires { length arguments.now ≤ length slots.old }
+    ensures { slots.new ≡ arguments.now ++ replicate (length slots.old - length arguments.now) (pos 0) }
+{
+    let (given, others) = slots.split_at_mut(arguments.len());
+    given.copy_from_slice(arguments);
+    clear(others);
+}
+
+/// Sets all slots to 0.
+pub fn clear(slots: &mut [Cell])
+    ensures { slots.new ≡ replicate (length slots.old) (pos 0) }
+{
+    for k in 0..slots.len() {
+        slots[k] = 0;
+    }
+}

@@ -1,0 +1,118 @@
+ghost use Rattle.std.specs.Prelude.{◌≡◌, ℕ, ℤ, ◌<◌, ◌≤◌, ◌+◌, ◌-◌, ◌^◌, suc, pos, Some, IsSome, IfOk, List, [], ◌∷◌, length, take, drop, map, replicate};
+ghost use Rattle.sk_base.specs.Arithmetic.{InRange};
+ghost use Rattle.sk_isa.specs.Instances.{function_meaning, invoked, signature_at};
+ghost use Rattle.sk_isa.specs.Kernels.{Suits, Agree, given_by};
+ghost use Rattle.sk_isa.specs.Soundness.{IsSound, SuitParams, TakesScalars};
+ghost use Rattle.sk_tree.specs.Evaluation.{Value};
+ghost use Rattle.sk_vm.specs.Arguments.{argument_at, Passes, CanPass};
+ghost use Rattle.sk_vm.specs.Rooms.{depth_below, slots_below};
+
+use crate::parts::{param_count, slot_count};
+use crate::run::{clear, enter, run_code};
+use sk_base::{Cell, Trap};
+use sk_isa::{At, Data, Object};
+
+/// How a function reads its parameters: so many are elements, and the second of two is read at the pair.
+#[derive(Clone, Copy)]
+pub struct Reading {
+    pub elements: u32,
+    pub pairs: bool,
+}
+
+/// How many turns one invocation may take.
+pub const TURN_LIMIT: u32 = 65536;
+
+/// Reads the arguments of a function and runs it.
+pub fn start<D: Data>(
+    object: &Object,
+    function: u32,
+    reading: Reading,
+    source: &D,
+    at: At,
+    stack: &mut [Cell],
+    slots: &mut [Cell],
+) -> Result<Cell, Trap>
+    requires sound { IsSound object.now }
+    requires scalars { TakesScalars object.now }
+    requires there { function < length object.now.functions }
+    requires depth { depth_below object.now.functions (suc function) ≤ length stack.old }
+    requires room { slots_below object.now.functions (suc function) ≤ length slots.old }
+    requires suits { Suits (function_meaning object.now function (record { elements = reading.elements; pairs = reading.pairs })) (D.means source.now) at.place at.pair }
+    ensures value { (cells : ℕ → ℕ → ℤ)
+        → Agree (function_meaning object.now function (record { elements = reading.elements; pairs = reading.pairs })) (D.means source.now) at.place at.pair cells
+        → result ≡ (function_meaning object.now function (record { elements = reading.elements; pairs = reading.pairs })).value (given_by (D.means source.now) cells) at.place at.pair }
+    ensures range { IfOk result (InRange (signature_at object.now function).ret) }
+{
+    let (own, rest) = slots.split_at_mut(slot_count(object, function));
+    read(source, reading, at, param_count(object, function), own);
+    match run_code(object, function, stack, own, rest, TURN_LIMIT) {
+        Ok((value, _)) => Ok(value),
+        Err(trap) => Err(trap),
+    }
+}
+
+/// Runs a function on two numbers.
+pub fn start_with(
+    object: &Object,
+    function: u32,
+    a: Cell,
+    b: Cell,
+    stack: &mut [Cell],
+    slots: &mut [Cell],
+) -> Result<Cell, Trap>
+    requires sound { IsSound object.now }
+    requires scalars { TakesScalars object.now }
+    requires there { function < length object.now.functions }
+    requires depth { depth_below object.now.functions (suc function) ≤ length stack.old }
+    requires room { slots_below object.now.functions (suc function) ≤ length slots.old }
+    requires suits { SuitParams (signature_at object.now function).params (Value a ∷ Value b ∷ []) }
+    ensures value { result ≡ invoked object.now function (Value a ∷ Value b ∷ []) }
+    ensures range { IfOk result (InRange (signature_at object.now function).ret) }
+{
+    let (own, rest) = slots.split_at_mut(slot_count(object, function));
+    enter(&[a, b], own);
+    match run_code(object, function, stack, own, rest, TURN_LIMIT) {
+        Ok((value, _)) => Ok(value),
+        Err(trap) => Err(trap),
+    }
+}
+
+/// Gives slots their values at the start of a function: so many arguments, and then 0.
+fn read<D: Data>(source: &D, reading: Reading, at: At, count: usize, slots: &mut [Cell])
+    requires within { count ≤ length slots.old }
+    requires few { count ≤ 64 }
+    requires there { CanPass (D.means source.now) reading.elements reading.pairs at.place at.pair count }
+    ensures arguments { Passes (D.means source.now) reading.elements reading.pairs at.place at.pair (take count slots.new) }
+    ensures others { drop count slots.new ≡ replicate (length slots.old - count) (pos 0) }
+{
+    let (given, others) = slots.split_at_mut(count);
+    pass(source, reading, at, given);
+    clear(others);
+}
+
+fn pass<D: Data>(source: &D, reading: Reading, at: At, slots: &mut [Cell])
+    requires few { length slots.old ≤ 64 }
+    requires there { CanPass (D.means source.now) reading.elements reading.pairs at.place at.pair (length slots.old) }
+    ensures { Passes (D.means source.now) reading.elements reading.pairs at.place at.pair slots.new }
+{
+    for k in 0..slots.len() {
+        slots[k] = argument(source, reading, at, k as u32);
+    }
+}
+
+#[inline]
+fn argument<D: Data>(source: &D, reading: Reading, at: At, k: u32) -> Cell
+    requires { IsSome (argument_at (D.means source.now) reading.elements reading.pairs at.place at.pair k) }
+    ensures { argument_at (D.means source.now) reading.elements reading.pairs at.place at.pair k ≡ Some result }
+{
+    if k < reading.elements {
+        let place = if reading.pairs && k == 1 {
+            at.pair
+        } else {
+            at.place
+        };
+        source.cell(k, place)
+    } else {
+        source.uniform(k - reading.elements)
+    }
+}

@@ -1,3 +1,10 @@
 pub mod FirstForm
+pub mod Inner
+pub mod InnerPart
+pub mod Inside
 pub mod Pieces
+pub mod Reading
+pub mod ReadingExpressions
+pub mod ReadingPrograms
+pub mod ReadingStatements
 pub mod Spelling

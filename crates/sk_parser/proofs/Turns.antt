@@ -1,0 +1,56 @@
+-- A recursion on a count of turns, beside a loop that counts up; and one step down.
+use Rattle.std.proofs.Common.{◌≡◌, ℕ, suc, ◌+◌, ◌-◌, ◌<◌, ◌≤◌, List, [], ◌∷◌, ◌++◌, length, Some, refl, ap, ◌∙◌, arith}
+use Rattle.std.specs.Prelude.{reverse}
+use Rattle.std.proofs.lemmas.List.{reverse-append}
+use Rattle.sk_tree.specs.declared.tree.Expr.{Expr}
+use Rattle.sk_parser.specs.declared.expression.Reach.{Reach}
+use Rattle.sk_parser.specs.Reading.{Place, Parser, and_then}
+use Rattle.sk_parser.specs.ReadingStatements.{part_below, part_of}
+use Rattle.sk_parser.specs.declared.statement.Part.{Part}
+use Rattle.sk_parser.specs.ReadingExpressions.{below, expression, chosen, operators, more}
+
+pub one_more : {X : Type 0} {x : X} (f : ℕ → X) (n at : ℕ) → at < n → x ≡ f (n - at) → x ≡ f (suc (n - (at + 1)))
+one_more f n at less e = let turn : n - at ≡ suc (n - (at + 1)) = omega arith in e ∙ ap f turn
+
+pub no_more : {X : Type 0} {x : X} (f : ℕ → X) (n at : ℕ) → n ≤ at → x ≡ f (n - at) → x ≡ f 0
+no_more f n at done e = let none : n - at ≡ 0 = omega arith in e ∙ ap f none
+
+below-suc : (left : ℕ) (reach : Reach) (p : Place) → below (suc left) reach p ≡ expression left reach p
+unfolding below expression
+below-suc left reach p = refl
+
+pub below-some : (left : ℕ) (reach : Reach) (p : Place) → 0 < left → below left reach p ≡ expression (left - 1) reach p
+below-some left reach p some =
+    let e : left ≡ suc (left - 1) = omega arith in
+    ap (λ n. below n reach p) e ∙ below-suc (left - 1) reach p
+
+pub chosen_pop : (left : ℕ) (inner : Reach → Parser Expr) (tests rest : List Expr) (test value : Expr) (p : Place) → tests ≡ rest ++ test ∷ []
+    → chosen left inner (reverse tests) value p ≡ chosen left inner (test ∷ reverse rest) value p
+chosen_pop left inner tests rest test value p e =
+    ap (λ l. chosen left inner l value p) (ap reverse e ∙ reverse-append rest (test ∷ []))
+
+operators-suc : (left : ℕ) (inner : Reach → Parser Expr) (reach : ℕ) (p : Place)
+    → operators left inner (suc reach) p ≡ and_then (operators left inner reach p) (λ first q. more left inner (operators left inner reach) reach (length q.rest) first q)
+unfolding operators
+operators-suc left inner reach p = refl
+
+pub operators-some : (left : ℕ) (inner : Reach → Parser Expr) (reach : ℕ) (p : Place) → 0 < reach
+    → operators left inner reach p ≡ and_then (operators left inner (reach - 1) p) (λ first q. more left inner (operators left inner (reach - 1)) (reach - 1) (length q.rest) first q)
+operators-some left inner reach p some =
+    let e : reach ≡ suc (reach - 1) = omega arith in
+    ap (λ n. operators left inner n p) e ∙ operators-suc left inner (reach - 1) p
+
+pub chosen_none : (left : ℕ) (inner : Reach → Parser Expr) (tests : List Expr) (value : Expr) (p : Place) → length tests ≡ 0
+    → chosen left inner (reverse tests) value p ≡ Some (value, p)
+unfolding chosen
+chosen_none left inner [] value p e = refl
+chosen_none left inner (test ∷ tests) value p e = absurd (omega arith)
+
+part-suc : (left : ℕ) (kind : Part) (p : Place) → part_below (suc left) kind p ≡ part_of left kind p
+unfolding part_below part_of
+part-suc left kind p = refl
+
+pub part-some : (left : ℕ) (kind : Part) (p : Place) → 0 < left → part_below left kind p ≡ part_of (left - 1) kind p
+part-some left kind p some =
+    let e : left ≡ suc (left - 1) = omega arith in
+    ap (λ n. part_below n kind p) e ∙ part-suc (left - 1) kind p

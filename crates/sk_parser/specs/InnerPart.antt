@@ -1,0 +1,16 @@
+-- A function value that reads the statements inside what is opened.
+use Rattle.std.specs.Prelude.{ℕ, ◌-◌, ◌<◌, List, Result}
+use Rattle.std.specs.declared.alloc.Global.{Global}
+use denote.Ref.{MutBor}
+use Rattle.sk_tree.specs.declared.tree.Statement.{Statement}
+use Rattle.sk_parser.specs.declared.fault.ParseFault.{ParseFault}
+use Rattle.sk_parser.specs.declared.statement.Part.{Part}
+use Rattle.sk_parser.specs.Reading.{Place, Reads}
+use Rattle.sk_parser.specs.ReadingStatements.{part_of}
+
+-- where that many more may be opened, it reads with one less
+pub record ReadsPartBelow (left : ℕ) (pre : Global → MutBor Place → ℕ → Part → Type 0)
+    (post : Global → MutBor Place → ℕ → Part → Result (List Statement) ParseFault → MutBor Place → Type 0) : Type 0 where
+  pub callable : 0 < left → (alloc : Global) (old : MutBor Place) (kind : Part) → pre alloc old (left - 1) kind
+  pub reads : 0 < left → (alloc : Global) (old new : MutBor Place) (kind : Part) (r : Result (List Statement) ParseFault)
+      → post alloc old (left - 1) kind r new → Reads (part_of (left - 1) kind old.now) r new.now

@@ -1,0 +1,395 @@
+ghost use Rattle.std.specs.Prelude.{◌≡◌, ◌≢◌, ◌+◌, ◌≤◌, ◌<◌, ◌^◌, length, drop, map};
+ghost use Rattle.std.specs.Option.{option_copied};
+ghost use Rattle.sk_parser.specs.Reading as spec;
+ghost use Rattle.sk_parser.specs.ReadingExpressions as expressions;
+ghost use Rattle.sk_parser.specs.ReadingStatements as statements;
+ghost use Rattle.sk_parser.specs.ReadingPrograms as programs;
+ghost use Rattle.sk_parser.specs.Reading.{Reads};
+ghost use Rattle.sk_parser.specs.declared.fault.ParseFault.TheVariants.{Memory};
+
+use crate::fault::{Limited, ParseFault};
+use crate::keyword::Keyword;
+use crate::meaning::meant;
+use crate::same::{same_keyword, same_sign};
+use sk_tree::{Cell, Name, Sign, Text, Token, TokenKind, Ty};
+use std::alloc::Global;
+use std::marker::Model;
+
+/// The most nodes that an expression has.
+const MOST_NODES: u32 = 1024;
+
+/// The most instances that a program has.
+const MOST_INSTANCES: u32 = 1024;
+
+/// What the next token is, apart from what it holds.
+#[derive(Clone, Copy, PartialEq, Eq, Debug)]
+pub enum Next {
+    Keyword(Keyword),
+    Name,
+    Number,
+    Text,
+    Sign(Sign),
+    End,
+}
+
+impl Next {
+    fn is_sign(self, sign: Sign) -> bool
+        ensures { result ≡ spec.is_sign sign self }
+    {
+        match self {
+            Next::Sign(other) => same_sign(other, sign),
+            _ => false,
+        }
+    }
+
+    fn is_type(self) -> bool
+        ensures { result ≡ expressions.is_type self }
+    {
+        matches!(self, Next::Keyword(Keyword::Int | Keyword::Long))
+    }
+
+    fn is_keyword(self, keyword: Keyword) -> bool
+        ensures { result ≡ spec.is_keyword keyword self }
+    {
+        match self {
+            Next::Keyword(other) => same_keyword(other, keyword),
+            _ => false,
+        }
+    }
+
+    fn of(token: &Token) -> Next
+        ensures { result ≡ spec.next_of token.now }
+    {
+        match &token.what {
+            TokenKind::Word(word) => match Keyword::of(word.as_bytes()) {
+                Some(keyword) => Next::Keyword(keyword),
+                None => Next::Name,
+            },
+            TokenKind::Number(_, _) => Next::Number,
+            TokenKind::Text(_) => Next::Text,
+            TokenKind::Sign(sign) => Next::Sign(*sign),
+        }
+    }
+}
+
+/// How far a list of tokens is read, and what has been counted.
+#[derive(Drop)]
+pub struct Cursor<'a> {
+    rest: &'a [Token],
+    /// How many tokens are read.
+    at: u32,
+    /// The nodes of the expression so far.
+    nodes: u32,
+    /// The instances so far.
+    instances: u32,
+}
+
+impl<'a> Model for Cursor<'a> {
+    ghost use Rattle.sk_parser.specs.Reading.{Place};
+
+    ghost Value = { Place };
+
+    ghost use Rattle.sk_parser.specs.Inside.{place_of, IsCounted};
+
+    ghost view = { place_of };
+
+    ghost invariant = { IsCounted };
+}
+
+impl<'a> Cursor<'a> {
+    pub fn new(tokens: &'a [Token]) -> Cursor<'a>
+        requires { length tokens.now < 2 ^ 31 }
+        ensures { result ≡ spec.start_of tokens.now }
+    {
+        Cursor {
+            rest: tokens,
+            at: 0,
+            nodes: 0,
+            instances: 0,
+        }
+    }
+
+    #[tactic(auto, unfolding(crate::specs::Reading::front))]
+    pub fn peek(&self) -> Next
+        ensures { result ≡ spec.front self.now }
+    {
+        match self.rest.first() {
+            Some(token) => Next::of(token),
+            None => Next::End,
+        }
+    }
+
+    /// Another cursor at the same place.
+    pub fn again(&self) -> Cursor<'a>
+        ensures { result ≡ self.now }
+    {
+        Cursor {
+            rest: self.rest,
+            at: self.at,
+            nodes: self.nodes,
+            instances: self.instances,
+        }
+    }
+
+    /// The line of the next token, and 0 at the end.
+    #[tactic(auto, unfolding(crate::specs::ReadingStatements::front_line))]
+    pub fn line(&self) -> u32
+        ensures { result ≡ statements.front_line self.now }
+    {
+        match self.rest.first() {
+            Some(token) => token.line,
+            None => 0,
+        }
+    }
+
+    /// Whether a setting of the name that comes next follows.
+    #[tactic(auto, unfolding(crate::specs::ReadingStatements::begins_setting, crate::specs::Reading::front, crate::specs::Reading::advance))]
+    pub fn begins_setting(&self) -> bool
+        ensures { result ≡ statements.begins_setting self.now }
+    {
+        match self.rest.get(1) {
+            Some(token) => Next::of(token).is_sign(Sign::Dot),
+            None => false,
+        }
+    }
+
+    #[tactic(auto, unfolding(crate::specs::ReadingPrograms::at_end))]
+    pub fn is_at_end(&self) -> bool
+        ensures { result ≡ programs.at_end self.now }
+    {
+        matches!(self.peek(), Next::End)
+    }
+
+    /// How many tokens are left.
+    pub fn left(&self) -> usize
+        ensures { result ≡ length self.now.rest }
+    {
+        self.rest.len()
+    }
+
+    #[tactic(auto, unfolding(crate::specs::Reading::advance))]
+    pub fn advance(&mut self)
+        ensures { self.new ≡ spec.advance self.old }
+    {
+        if !self.rest.is_empty() {
+            self.rest = &self.rest[1..];
+            self.at += 1;
+        }
+    }
+
+    #[tactic(auto, unfolding(crate::specs::Reading::sees))]
+    pub fn sees(&self, sign: Sign) -> bool
+        ensures { result ≡ spec.sees sign self.now }
+    {
+        self.peek().is_sign(sign)
+    }
+
+    #[tactic(auto, unfolding(crate::specs::Reading::sees_keyword))]
+    pub fn sees_keyword(&self, keyword: Keyword) -> bool
+        ensures { result ≡ spec.sees_keyword keyword self.now }
+    {
+        self.peek().is_keyword(keyword)
+    }
+
+    /// Takes the sign, if it comes next.
+    #[tactic(auto, unfolding(crate::specs::Reading::after))]
+    pub fn eat(&mut self, sign: Sign) -> bool
+        ensures found { result ≡ spec.sees sign self.old }
+        ensures after { self.new ≡ spec.after sign self.old }
+    {
+        let found = self.sees(sign);
+        if found {
+            self.advance();
+        }
+        found
+    }
+
+    #[tactic(auto, unfolding(crate::specs::Reading::expect))]
+    pub fn expect(&mut self, sign: Sign) -> Result<(), ParseFault>
+        ensures { Reads (spec.expect sign self.old) result self.new }
+    {
+        if !self.sees(sign) {
+            return Err(self.refuse());
+        }
+        self.advance();
+        Ok(())
+    }
+
+    #[tactic(auto, unfolding(crate::specs::Reading::expect_keyword))]
+    pub fn expect_keyword(&mut self, keyword: Keyword) -> Result<(), ParseFault>
+        ensures { Reads (spec.expect_keyword keyword self.old) result self.new }
+    {
+        if !self.sees_keyword(keyword) {
+            return Err(self.refuse());
+        }
+        self.advance();
+        Ok(())
+    }
+
+    /// Whether a type stands behind the next token.
+    #[tactic(auto, unfolding(crate::specs::ReadingExpressions::begins_conversion, crate::specs::Reading::front, crate::specs::Reading::advance))]
+    pub fn begins_conversion(&self) -> bool
+        ensures { result ≡ expressions.begins_conversion self.now }
+    {
+        match self.rest.get(1) {
+            Some(token) => Next::of(token).is_type(),
+            None => false,
+        }
+    }
+
+    /// The next token, if it is a word.
+    #[tactic(auto, unfolding(crate::specs::Reading::front_word))]
+    pub fn front_word(&self) -> Option<&'a [u8]>
+        ensures { option_copied result ≡ spec.front_word self.now }
+    {
+        match &self.rest.first()?.what {
+            TokenKind::Word(word) => Some(word.as_bytes()),
+            _ => None,
+        }
+    }
+
+    #[tactic(auto, unfolding(crate::specs::Reading::name, crate::specs::Reading::name_of))]
+    pub fn name(&mut self, alloc: Global) -> Result<Name, ParseFault>
+        ensures { Reads (spec.name self.old) result self.new }
+    {
+        let Some(word) = self.front_word() else {
+            return Err(self.refuse());
+        };
+        if Keyword::of(word).is_some() {
+            return Err(self.refuse());
+        }
+        let name = Name::from_slice(alloc, word)?;
+        self.advance();
+        Ok(name)
+    }
+
+    /// What the next word stands for among the entries.
+    #[tactic(auto, unfolding(crate::specs::Reading::word_in))]
+    pub fn word_in<T: Copy>(&mut self, entries: &[(&[u8], T)]) -> Result<T, ParseFault>
+        ensures { Reads (spec.word_in (map (λ entry. (entry.0.now, entry.1)) entries.now) self.old) result self.new }
+    {
+        let Some(word) = self.front_word() else {
+            return Err(self.refuse());
+        };
+        let Some(meaning) = meant(entries, word) else {
+            return Err(self.refuse());
+        };
+        self.advance();
+        Ok(meaning)
+    }
+
+    #[tactic(auto, unfolding(crate::specs::Reading::number))]
+    pub fn number(&mut self) -> Result<(Ty, Cell), ParseFault>
+        ensures { Reads (spec.number self.old) result self.new }
+    {
+        match self.rest.first() {
+            Some(
+                Token {
+                    what: TokenKind::Number(ty, value),
+                    ..
+                },
+            ) => {
+                let number = (*ty, *value);
+                self.advance();
+                Ok(number)
+            }
+            _ => Err(self.refuse()),
+        }
+    }
+
+    #[tactic(auto, unfolding(crate::specs::Reading::text))]
+    pub fn text(&mut self, alloc: Global) -> Result<Text, ParseFault>
+        ensures { Reads (spec.text self.old) result self.new }
+    {
+        match self.rest.first() {
+            Some(
+                Token {
+                    what: TokenKind::Text(text),
+                    ..
+                },
+            ) => {
+                let bytes = Vec::from_slice(alloc, text.as_bytes())?;
+                self.advance();
+                Ok(Text::from_vec(bytes))
+            }
+            _ => Err(self.refuse()),
+        }
+    }
+
+    #[tactic(auto, unfolding(crate::specs::Reading::ty))]
+    pub fn ty(&mut self) -> Result<Ty, ParseFault>
+        ensures { Reads (spec.ty self.old) result self.new }
+    {
+        let ty = match self.peek() {
+            Next::Keyword(Keyword::Int) => Ty::Int,
+            Next::Keyword(Keyword::Long) => Ty::Long,
+            _ => return Err(self.refuse()),
+        };
+        self.advance();
+        Ok(ty)
+    }
+
+    /// Begins an expression that is part of no other.
+    pub fn fresh(&mut self)
+        ensures { self.new ≡ record self.old { nodes = 0 } }
+    {
+        self.nodes = 0;
+    }
+
+    /// Counts a node at the next token.
+    #[tactic(auto, unfolding(crate::specs::Reading::count_node))]
+    pub fn count_node(&mut self) -> Result<(), ParseFault>
+        ensures { Reads (spec.count_node self.old) result self.new }
+    {
+        if self.nodes >= MOST_NODES {
+            return Err(self.many(Limited::Nodes));
+        }
+        self.nodes += 1;
+        Ok(())
+    }
+
+    /// Counts an instance at the next token.
+    #[tactic(auto, unfolding(crate::specs::Reading::count_instance))]
+    pub fn count_instance(&mut self) -> Result<(), ParseFault>
+        ensures { Reads (spec.count_instance self.old) result self.new }
+    {
+        if self.instances >= MOST_INSTANCES {
+            return Err(self.many(Limited::Instances));
+        }
+        self.instances += 1;
+        Ok(())
+    }
+
+    /// Opens something at the next token, where that many more may be opened.
+    #[tactic(auto, unfolding(crate::specs::Reading::opened))]
+    pub fn open(&self, left: usize) -> Result<(), ParseFault>
+        ensures { Reads (spec.opened left self.now) result self.now }
+    {
+        if left == 0 {
+            return Err(self.deep());
+        }
+        Ok(())
+    }
+
+    pub fn deep(&self) -> ParseFault
+        ensures { result ≢ Memory }
+    {
+        ParseFault::Deep { token: self.at }
+    }
+
+    pub fn many(&self, what: Limited) -> ParseFault
+        ensures { result ≢ Memory }
+    {
+        ParseFault::Many {
+            what,
+            token: self.at,
+        }
+    }
+
+    /// A fault of the grammar at the next token.
+    pub fn refuse(&self) -> ParseFault
+        ensures { result ≢ Memory }
+    {
+        ParseFault::Syntax { token: self.at }
+    }
+}

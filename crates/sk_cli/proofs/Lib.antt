@@ -2,6 +2,8 @@ pub mod AnswerLemmas
 pub mod AskedLemmas
 pub mod EagerFirst
 pub mod FirstFunction
+pub mod FirstObject
 pub mod FirstStatements
 pub mod PartsLemmas
 pub mod RanLemmas
+pub mod VectorLemmas

@@ -43,7 +43,3 @@ exact_of Times a b = a *ℤ b
 -- each element of the vector after the call
 abbrev pub element_in : Holes → ℤ
 element_in h = wrapped Int (exact_of h.operator (pos h.fill) (pos h.constant))
-
--- the operators of such programs, which have no traps
-abbrev pub IsFirstOperator : Op → Type 0
-IsFirstOperator op = (operator : Operator) × (op ≡ op_of operator)

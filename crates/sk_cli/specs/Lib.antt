@@ -1,3 +1,5 @@
 pub mod Answer
 pub mod FirstProgram
+pub mod FirstRun
 pub mod Parts
+pub mod VectorMap

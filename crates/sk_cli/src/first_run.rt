@@ -1,58 +1,25 @@
 //! The run of a program of the first form.
-ghost use Rattle.std.specs.Prelude.{◌≡◌, ◌⊎◌, ◌≤◌, ◌++◌, ◌∷◌, [], ℤ, replicate, Ok, IfOk, OnOk, OnErr, IsErrOf};
+ghost use Rattle.std.specs.Prelude.{◌≡◌, ◌⊎◌, ◌≤◌, ◌++◌, ◌∷◌, [], IfOk, OnOk, OnErr, IsErrOf};
 ghost use Rattle.std.specs.Fmt.{signed_decimal};
 ghost use Rattle.std.specs.Io.KnownBytes.{Appends};
-ghost use Rattle.sk_base.specs.Arithmetic.{InRange};
-ghost use Rattle.sk_base.specs.Arithmetic as arithmetic;
-ghost use Rattle.sk_base.specs.declared.number.Ty.TheVariants.{Int};
 ghost use Rattle.sk_outside.specs.Faults.{Rose};
 ghost use Rattle.sk_outside.specs.Holding.{AppendsPrefix};
 ghost use Rattle.sk_tree.specs.Eager.{eager_of};
 ghost use Rattle.sk_cli.specs.Answer.{statement_limit};
-ghost use Rattle.sk_cli.specs.FirstProgram.{IsFirstProgram, IsFirstOperator};
+ghost use Rattle.sk_cli.specs.FirstProgram.{IsFirstProgram, element_in};
+ghost use Rattle.sk_cli.specs.FirstRun.{IsFirstRun};
+ghost use Rattle.sk_parser.specs.FirstForm.{Holes};
 
 use crate::parts::{Parts, parts_of};
+use crate::vector_map::mapped;
 use itoa::Buffer;
-use sk_base::{Cell, Op, Ty, binary};
+use sk_base::Cell;
+use sk_codegen::plain;
+use sk_isa::Kernel;
 use sk_outside::{Sink, WriteAnswer};
 use sk_tree::Program;
+use sk_vm::Coded;
 use std::alloc::{AllocError, Global};
-
-/// The function's value at an element.
-fn applied(op: Op, cell: Cell, constant: Cell) -> Cell
-    requires operator { IsFirstOperator op }
-    requires left { InRange Int cell }
-    requires right { InRange Int constant }
-    ensures { arithmetic.op_of op Int cell constant ≡ Ok result }
-{
-    match binary(op, Ty::Int, cell, constant) {
-        Ok(value) => value,
-        Err(_) => unreachable!(),
-    }
-}
-
-/// The cells of a vector of equal cells after the call, which gives each element the function's value there.
-fn mapped(
-    alloc: Global,
-    op: Op,
-    constant: Cell,
-    fill: Cell,
-    size: usize,
-) -> Result<Vec<Cell>, AllocError>
-    requires operator { IsFirstOperator op }
-    requires left { InRange Int fill }
-    requires right { InRange Int constant }
-    ensures { (value : ℤ) → arithmetic.op_of op Int fill constant ≡ Ok value
-        → IfOk result (λ cells. cells.items ≡ replicate size value) }
-{
-    let before = vec![in alloc; fill; size]?;
-    let mut after = Vec::with_capacity(alloc, size)?;
-    'each: for cell in &before {
-        let value = applied(op, *cell, constant);
-        after.push(value)?;
-    }
-    Ok(after)
-}
 
 /// A number in decimal digits, and the end of the line.
 fn line_of(alloc: Global, value: Cell) -> Result<Vec<u8>, AllocError>
@@ -64,6 +31,16 @@ fn line_of(alloc: Global, value: Cell) -> Result<Vec<u8>, AllocError>
     Ok(line)
 }
 
+/// What the run of a program of the first form prints, whose function is this kernel's.
+fn printed_by<K: Kernel>(alloc: Global, kernel: &mut K, parts: Parts) -> Result<Vec<u8>, AllocError>
+    requires first { (h : Holes) × IsFirstRun (K.means kernel.old) parts h }
+    ensures { (h : Holes) → IsFirstRun (K.means kernel.old) parts h
+        → IfOk result (λ line. line.items ≡ signed_decimal (element_in h) ++ 10 ∷ []) }
+{
+    let cells = mapped(alloc, kernel, parts.fill, parts.size as u32)?;
+    line_of(alloc, cells[parts.at as usize])
+}
+
 /// What the run of a program of the first form prints.
 fn printed(alloc: Global, program: &Program) -> Result<Vec<u8>, AllocError>
     requires { IsFirstProgram program.now }
@@ -72,14 +49,9 @@ fn printed(alloc: Global, program: &Program) -> Result<Vec<u8>, AllocError>
     let Some(parts) = parts_of(program) else {
         unreachable!()
     };
-    let cells = mapped(
-        alloc,
-        parts.op,
-        parts.constant,
-        parts.fill,
-        parts.size as usize,
-    )?;
-    line_of(alloc, cells[parts.at as usize])
+    let object = plain(alloc, program)?;
+    let mut kernel = Coded::new(alloc, &object, 0)?;
+    printed_by(alloc, &mut kernel, parts)
 }
 
 /// Runs a program of the first form: prints what it prints, or a prefix of that.

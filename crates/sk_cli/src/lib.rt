@@ -4,6 +4,7 @@
 //! - `words`: what the words of the command line ask for.
 //! - `report`: lines on the error stream.
 //! - `parts`: the numbers that stand in the tree of a program of the first form.
+//! - `vector_map`: a Map over a vector.
 //! - `first_run`: the run of such a program.
 #![tactic(auto)]
 
@@ -11,6 +12,7 @@ mod command;
 mod first_run;
 mod parts;
 mod report;
+mod vector_map;
 mod words;
 
 pub use command::skepu;

@@ -1,12 +1,12 @@
 //! The numbers that stand in the tree of a program of the first form.
 ghost use Rattle.std.specs.Prelude.{◌≡◌, ℕ, ℤ, pos, Some, List};
 ghost use Rattle.sk_base.specs.declared.number.Ty.{Ty as Types};
-ghost use Rattle.sk_parser.specs.FirstForm.{Holes, op_of, first_function, first_main, first_tree};
+ghost use Rattle.sk_parser.specs.FirstForm.{Holes, first_main, first_tree};
 ghost use Rattle.sk_tree.specs.declared.tree.Expr.TheVariants as expression;
-ghost use Rattle.sk_cli.specs.FirstProgram.{operation_in, vector_in, at_in, print_in};
+ghost use Rattle.sk_cli.specs.FirstProgram.{vector_in, at_in, print_in};
 ghost use Rattle.sk_cli.specs.Parts.{parts_in};
 
-use sk_base::{Cell, Op};
+use sk_base::Cell;
 use sk_tree::{Expr, Function, Item, Program, Statement, What};
 
 /// The value of an expression that is a number.
@@ -15,30 +15,6 @@ fn literal_of(expr: &Expr) -> Option<Cell>
 {
     match expr {
         Expr::Number(_, number) => Some(*number),
-        _ => None,
-    }
-}
-
-/// The operator and the right operand of an expression between a name and a number.
-fn operation_of(expr: &Expr) -> Option<(Op, Cell)>
-    ensures { (h : Holes) → expr.now ≡ operation_in h → result ≡ Some (op_of h.operator, pos h.constant) }
-{
-    match expr {
-        Expr::Binary(op, _, right) => literal_of(right.get()).map(|constant| (*op, constant)),
-        _ => None,
-    }
-}
-
-/// What the function of a first program does with its parameter.
-fn body_of(function: &Function) -> Option<(Op, Cell)>
-    ensures { (h : Holes) (line body : ℕ) → function.now ≡ first_function h line body
-        → result ≡ Some (op_of h.operator, pos h.constant) }
-{
-    match function.body.as_slice() {
-        [only] => match &only.what {
-            What::Return(expr) => operation_of(expr),
-            _ => None,
-        },
         _ => None,
     }
 }
@@ -82,20 +58,18 @@ fn printed_place_of(statement: &Statement) -> Option<Cell>
     }
 }
 
-/// The numbers of a program of the first form: its function's operator and right operand, its vector's size and fill
-/// value, and the index of the element that it prints.
+/// The numbers of a program of the first form: its vector's size and fill value, and the index of the element that it
+/// prints.
 #[derive(Clone, Copy, Debug)]
 pub struct Parts {
-    pub op: Op,
-    pub constant: Cell,
     pub size: Cell,
     pub fill: Cell,
     pub at: Cell,
 }
 
-/// The size and the fill value of main's vector, and the place of the element that is printed.
-fn main_numbers_of(main: &Function) -> Option<(Cell, Cell, Cell)>
-    ensures { (h : Holes) (lines : List ℕ) → main.now ≡ first_main h lines → result ≡ Some (pos h.size, pos h.fill, pos h.at) }
+/// The numbers of main.
+fn main_parts_of(main: &Function) -> Option<Parts>
+    ensures { (h : Holes) (lines : List ℕ) → main.now ≡ first_main h lines → result ≡ Some (parts_in h) }
 {
     let [_, vector, _, print, _] = main.body.as_slice() else {
         return None;
@@ -106,27 +80,15 @@ fn main_numbers_of(main: &Function) -> Option<(Cell, Cell, Cell)>
     let Some(at) = printed_place_of(print) else {
         return None;
     };
-    Some((size, fill, at))
+    Some(Parts { size, fill, at })
 }
 
 /// The numbers that stand in a program's tree.
 pub fn parts_of(program: &Program) -> Option<Parts>
     ensures { (h : Holes) (lines : List ℕ) → program.now ≡ first_tree h lines → result ≡ Some (parts_in h) }
 {
-    let [function, main] = program.functions.as_slice() else {
+    let [_, main] = program.functions.as_slice() else {
         return None;
     };
-    let Some((op, constant)) = body_of(function) else {
-        return None;
-    };
-    let Some((size, fill, at)) = main_numbers_of(main) else {
-        return None;
-    };
-    Some(Parts {
-        op,
-        constant,
-        size,
-        fill,
-        at,
-    })
+    main_parts_of(main)
 }

@@ -6,8 +6,9 @@ use Rattle.std.specs.Prelude.{unwrap_or, FitsSigned}
 use Rattle.sk_parser.specs.FirstForm.{first_main}
 use Rattle.sk_tree.specs.declared.tree.Function.{Function}
 use Rattle.sk_tree.specs.declared.tree.Statement.{Statement}
+use Rattle.sk_cli.specs.declared.parts.Parts.{Parts}
 use Rattle.sk_cli.specs.FirstProgram.{vector_in, print_in}
-use Rattle.sk_cli.proofs.parts.main_numbers_of.Goals as goal
+use Rattle.sk_cli.proofs.parts.main_parts_of.Goals as goal
 
 pub returns-in_default-vector_of : goal.returns-in_default-vector_of
 returns-in_default-vector_of c h lines e =
@@ -35,4 +36,4 @@ returns c h lines e =
     let size_fits : FitsSigned w64 c.in-Some.size = search rules in
     let fill_fits : FitsSigned w64 c.in-Some.fill = search rules in
     let at_fits : FitsSigned w64 c.in-Some-printed_place_of.at = search rules in
-    simp to_z-of_z (ap (λ (n : (ℤ × ℤ) × ℤ). let o : Option (ℤ × ℤ × ℤ) = Some (n.0.0, n.0.1, n.1) in o) (λ i. (numbers i, at i)))
+    simp to_z-of_z (ap (λ (n : (ℤ × ℤ) × ℤ). let o : Option Parts = Some (record { size = n.0.0; fill = n.0.1; at = n.1 }) in o) (λ i. (numbers i, at i)))

@@ -1,0 +1,62 @@
+-- A vector of equal cells suits an instance that takes one vector by elements.
+use Rattle.std.proofs.Common.{◌≡◌, to_z, of_z, w64, Result, ◌∙◌, ℕ, ◌<◌, ◌≤◌, ◌^◌, ℤ, pos, List, [], ◌∷◌, sym, ap, subst, arith, rules, true, Some, None, Option, replicate, zero, suc, refl, Ok, slice_get}
+use Rattle.std.specs.Prelude.{IsSomeAnd, All}
+use Rattle.std.specs.Result.{result_unwrap_or}
+use Rattle.sk_base.specs.Arithmetic.{InRange}
+use Rattle.sk_base.specs.declared.number.Trap.{Trap}
+use Rattle.sk_base.specs.Shape.{IsShape, shape_of}
+use Rattle.sk_base.specs.declared.number.Ty.TheVariants.{Int}
+use Rattle.sk_tree.specs.declared.tree.ParamKind.{ParamKind}
+use Rattle.sk_isa.specs.Kernels.{Meaning, Source, Suits, Agree, given_by, SuitKinds, AreOfTypes, SuitsOver, operand_type}
+use Rattle.std.proofs.lemmas.Int.{to_z-of_z}
+use Rattle.sk_cli.proofs.FirstStatements.{shape_of-one}
+use Rattle.sk_isa.specs.Vectors.{vector_source}
+use Rattle.sk_cli.specs.VectorMap.{MapsEqualCells}
+
+held-equal : (size place : ℕ) (fill : ℤ) → place < size → slice_get (replicate size fill) place ≡ Some fill
+held-equal zero place fill below = elim below [ ]
+held-equal (suc size) zero fill below = refl
+held-equal (suc size) (suc place) fill below = held-equal size place fill (omega arith)
+
+vector-shape : (size : ℕ) → size ≤ 2 ^ 24 → IsShape (size ∷ [])
+vector-shape size small = record { some = omega arith; few = omega arith; each = search rules; product = omega arith }
+
+pub vector-agrees : (meaning : Meaning) (size place : ℕ) (fill value : ℤ) → MapsEqualCells meaning size fill value → place < size
+    → Agree meaning (vector_source (replicate size fill) (size ∷ []) []) place 0 (λ operand index. fill)
+vector-agrees meaning size place fill value maps below operand index reads =
+    let at = maps.reads place operand index reads in
+    rw (at.0, at.1) (held-equal size place fill below)
+
+pub vector-suits : (meaning : Meaning) (size place : ℕ) (fill value : ℤ) → MapsEqualCells meaning size fill value → place < size → size ≤ 2 ^ 24
+    → Suits meaning (vector_source (replicate size fill) (size ∷ []) []) place 0
+vector-suits meaning size place fill value maps below small = record {
+  operands = subst (λ kinds. SuitKinds kinds ((size ∷ []) ∷ [])) (sym maps.operands) (vector-shape size small, record {});
+  uniforms = subst (λ types. AreOfTypes types []) (sym maps.uniforms) (record {});
+  over = subst (λ over. SuitsOver over (Some (size ∷ [])) place) (sym maps.over) (record {});
+  held = λ operand index reads.
+      let at = maps.reads place operand index reads in
+      let cell : slice_get (replicate size fill) place ≡ Some fill = held-equal size place fill below in
+      rw (at.0, at.1, maps.operands, cell) maps.in_range;
+}
+
+-- the same of a kernel, cells and sizes that are known to be these
+module _ (now first : Meaning) (cells : List ℤ) (sizes : List ℕ) (size place : ℕ) (fill value : ℤ) (same : now ≡ first)
+    (equal : cells ≡ replicate size fill) (shape : sizes ≡ size ∷ []) (maps : MapsEqualCells first size fill value) (below : place < size) where
+  pub now-suits : size ≤ 2 ^ 24 → Suits now (vector_source cells sizes []) place 0
+  now-suits small = rw (same, equal, shape) (vector-suits first size place fill value maps below small)
+
+  pub now-agrees : Agree now (vector_source cells sizes []) place 0 (λ operand index. fill)
+  now-agrees = rw (same, equal, shape) (vector-agrees first size place fill value maps below)
+
+  pub now-gives : now.value (given_by (vector_source cells sizes []) (λ operand index. fill)) place 0 ≡ Ok value
+  now-gives = rw (same, shape) (maps.gives place below)
+
+-- a run has one value
+pub value-once : (run : Result ℤ Trap) (one other : ℤ) → run ≡ Ok one → run ≡ Ok other → one ≡ other
+value-once run one other first second = ap (λ (r : Result ℤ Trap). result_unwrap_or r one) (sym first ∙ second)
+
+-- one size, as it is passed
+pub shape-read : (size : ℕ) (passed : ℤ) → size ≤ 2 ^ 24 → passed ≡ pos size → shape_of (to_z w64 (of_z w64 passed) ∷ []) ≡ Some (size ∷ [])
+shape-read size passed small is =
+    let read : to_z w64 (of_z w64 (pos size)) ≡ pos size = to_z-of_z w64 (pos size) (record { sfits = omega arith }) in
+    rw (is, read) (shape_of-one size small)

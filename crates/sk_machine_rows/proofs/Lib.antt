@@ -1,0 +1,4 @@
+pub mod Plain
+pub mod PlainParts
+pub mod Suited
+pub mod Taking

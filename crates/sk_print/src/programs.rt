@@ -1,0 +1,69 @@
+ghost use Rattle.std.specs.Prelude.{◌≡◌, ◌++◌, OnOk, IfOk, map};
+ghost use Rattle.sk_print.specs.WordText.{separated};
+ghost use Rattle.sk_print.specs.ProgramText.{param_text, function_text, printed_of};
+ghost use Rattle.sk_print.specs.PrintedLaws.{PrintsAlike};
+ghost use Rattle.sk_print.specs.ReadsBack.{IsFromText, ReadsAs};
+
+use crate::statements::put_block;
+use crate::words::{put_kind, type_name};
+use sk_tree::{Function, Param, Program};
+use std::alloc::{AllocError, Global};
+
+/// A source text that reads as the program again, but for its lines: two spaces a level, one statement a line, an empty
+/// line between functions, and no needless parentheses. Takes time and memory in proportion to the text.
+pub fn print(alloc: Global, program: &Program) -> Result<Vec<u8>, AllocError>
+    requires { IsFromText program.now }
+    ensures text { IfOk result (λ text. text.items ≡ printed_of program.now) }
+    ensures reads_back { IfOk result (λ text. ReadsAs text.items program.now) }
+{
+    text_of(alloc, program)
+}
+
+/// Programs that differ in their lines alone are printed alike, so what was printed, read and printed again is the same.
+pub fn prints_alike()
+    ensures { PrintsAlike }
+{}
+
+/// The text of any program.
+fn text_of(alloc: Global, program: &Program) -> Result<Vec<u8>, AllocError>
+    ensures { IfOk result (λ text. text.items ≡ printed_of program.now) }
+{
+    let mut out = Vec::new(alloc);
+    let mut lead: &[u8] = b"";
+    for function in program.functions.as_slice() {
+        out.extend_from_slice(lead)?;
+        put_function(alloc, &mut out, function)?;
+        lead = b"\n";
+    }
+    Ok(out)
+}
+
+fn put_params(out: &mut Vec<u8>, params: &[Param]) -> Result<(), AllocError>
+    ensures { OnOk result (out.new.items ≡ out.old.items ++ separated (map param_text params.now)) }
+{
+    let mut lead: &[u8] = b"";
+    for param in params {
+        out.extend_from_slice(lead)?;
+        put_kind(out, param.kind)?;
+        out.extend_from_slice(b" ")?;
+        out.extend_from_slice(param.name.as_bytes())?;
+        lead = b", ";
+    }
+    Ok(())
+}
+
+fn put_function(alloc: Global, out: &mut Vec<u8>, function: &Function) -> Result<(), AllocError>
+    ensures { OnOk result (out.new.items ≡ out.old.items ++ function_text function.now) }
+{
+    out.extend_from_slice(type_name(function.ret))?;
+    out.extend_from_slice(b" ")?;
+    out.extend_from_slice(function.name.as_bytes())?;
+    out.extend_from_slice(b"(")?;
+    put_params(out, function.params.as_slice())?;
+    out.extend_from_slice(b") ")?;
+    put_block(alloc, out, b"", function.body.as_slice())?;
+    out.extend_from_slice(b"\n")
+}
+
+#[cfg(test)]
+mod tests;

@@ -1,0 +1,5 @@
+pub mod Answers
+pub mod Found
+pub mod Numbers
+pub mod Scopes
+pub mod Told

@@ -1,10 +1,10 @@
 -- A program that was read within the limits is the program of a text.
 use Rattle.std.specs.Prelude.{◌≡◌, ℕ, List, Ok}
+use Rattle.sk_tree.specs.Grammar.{IsFromText}
 use Rattle.sk_tree.specs.Limits.{ReadsWithin}
 use Rattle.sk_tree.specs.Tokens.{tokens_of}
 use Rattle.sk_tree.specs.declared.token.Token.{Token}
 use Rattle.sk_tree.specs.declared.tree.Program.{Program}
-use Rattle.sk_print.specs.ReadsBack.{IsFromText}
 
 pub from_text : (bytes : List ℕ) (tokens : List Token) (program : Program) → tokens_of bytes ≡ Ok tokens → ReadsWithin tokens program → IsFromText program
 from_text bytes tokens program lexed within = record {

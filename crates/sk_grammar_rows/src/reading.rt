@@ -1,6 +1,6 @@
 //! From a source to its tree, and back.
 ghost use Rattle.std.specs.Prelude.{IfOk, IfSome};
-ghost use Rattle.sk_print.specs.ReadsBack.{IsFromText};
+ghost use Rattle.sk_tree.specs.Grammar.{IsFromText};
 
 use crate::lines::lines;
 use crate::written::written;

@@ -3,7 +3,7 @@ use Rattle.std.proofs.Common.{◌≡◌, ℕ, suc, List, [], ◌∷◌, ◌++◌
 use Rattle.std.specs.Prelude.{Some, codes, IfOk}
 use Rattle.sk_base.specs.declared.number.Ty.{Ty}
 use Rattle.sk_tree.specs.ExpressionSpelling.{word, sign_at, typed, with_commas, in_sequence, each}
-use Rattle.sk_tree.specs.Grammar.{Parameter, ScalarParameter, IndexParameter, ViewParameter, ConstParameter, parameter_in_front, parameter_tree, IsLawfulParameter, Definition, definition_in_front, definition_tree, IsLawfulDefinition, Spelling}
+use Rattle.sk_tree.specs.Grammar.{IsFromText, Parameter, ScalarParameter, IndexParameter, ViewParameter, ConstParameter, parameter_in_front, parameter_tree, IsLawfulParameter, Definition, definition_in_front, definition_tree, IsLawfulDefinition, Spelling}
 use Rattle.sk_tree.specs.Signs.{type_word, meant_by, index_words, view_words}
 use Rattle.sk_tree.specs.StatementSpelling.{block_in_front, block_tree}
 use Rattle.sk_tree.specs.declared.token.Sign.TheVariants as sign
@@ -15,7 +15,7 @@ use Rattle.sk_tree.specs.declared.tree.ParamKind.TheVariants.{Scalar}
 use Rattle.sk_tree.specs.declared.tree.Program.{Program}
 use Rattle.sk_tree.specs.declared.tree.Statement.{Statement}
 use Rattle.sk_print.specs.ProgramText.{param_text, function_text, printed_of}
-use Rattle.sk_print.specs.ReadsBack.{IsFromText, ReadsAs, unlined, unlined_function}
+use Rattle.sk_print.specs.ReadsBack.{ReadsAs, unlined, unlined_function}
 use Rattle.sk_print.specs.StatementText.{block_text, shown_statement}
 use Rattle.sk_print.specs.WordText.{led, separated}
 use Rattle.sk_print.proofs.BlockSpelt.{SpeltBlock, no_indent}

@@ -8,13 +8,6 @@ use Rattle.sk_tree.specs.declared.tree.Program.{Program}
 use Rattle.sk_tree.specs.declared.tree.Statement.{Statement, fold-Statement}
 use Rattle.sk_tree.specs.declared.tree.What.{What, roll-What}
 
--- a text has tokens that read as this program
-pub record IsFromText (program : Program) : Type 0 where
-  pub text : List ℕ
-  pub tokens : List Token
-  pub lexed : tokens_of text ≡ Ok tokens
-  pub reads : Reads tokens program
-
 -- with line 0 everywhere
 abbrev pub unlined : Statement → Statement
 unlined = fold-Statement What Statement roll-What (λ statement. record { line = 0; what = statement.what })

@@ -2,7 +2,8 @@ ghost use Rattle.std.specs.Prelude.{◌≡◌, ◌++◌, OnOk, IfOk, map};
 ghost use Rattle.sk_print.specs.WordText.{separated};
 ghost use Rattle.sk_print.specs.ProgramText.{param_text, function_text, printed_of};
 ghost use Rattle.sk_print.specs.PrintedLaws.{PrintsAlike};
-ghost use Rattle.sk_print.specs.ReadsBack.{IsFromText, ReadsAs};
+ghost use Rattle.sk_print.specs.ReadsBack.{ReadsAs};
+ghost use Rattle.sk_tree.specs.Grammar.{IsFromText};
 
 use crate::statements::put_block;
 use crate::words::{put_kind, type_name};

@@ -1,9 +1,10 @@
 -- The grammar: which lists of tokens read as which programs. It knows no limit, and no order in which tokens are looked at.
-use Rattle.std.specs.Prelude.{◌≡◌, ℕ, List, [], ◌∷◌, map, Some, codes}
+use Rattle.std.specs.Prelude.{◌≡◌, ℕ, List, [], ◌∷◌, map, Some, Ok, codes}
 use Rattle.sk_base.specs.declared.number.Ty.{Ty}
 use Rattle.sk_tree.specs.ExpressionSpelling.{word, sign_at, typed, TokenLines, IsName, with_commas, in_sequence, each}
 use Rattle.sk_tree.specs.Signs.{meant_by, index_words, view_words}
 use Rattle.sk_tree.specs.StatementSpelling.{Block, block_in_front, block_tree, IsLawfulBlock}
+use Rattle.sk_tree.specs.Tokens.{tokens_of}
 use Rattle.sk_tree.specs.declared.token.Sign.TheVariants as sign
 use Rattle.sk_tree.specs.declared.token.Token.{Token}
 use Rattle.sk_tree.specs.declared.tree.Function.{Function}
@@ -92,3 +93,10 @@ pub record Reads (tokens : List Token) (program : Program) : Type 0 where
   pub lawful : IsLawfulSpelling spelling
   pub tokens_are : tokens_in spelling ≡ tokens
   pub program_is : program_in spelling ≡ program
+
+-- a text has tokens that read as this program
+pub record IsFromText (program : Program) : Type 0 where
+  pub text : List ℕ
+  pub tokens : List Token
+  pub lexed : tokens_of text ≡ Ok tokens
+  pub reads : Reads tokens program

@@ -1,12 +1,12 @@
 -- The faults of statements, and the names that they declare.
-use Rattle.std.specs.Prelude.{ℕ, ◌+◌, ◌==◌, Bool, true, false, ◌&&◌, if◌then◌else◌, List, [], ◌∷◌, ◌++◌, map, length, flat_map}
+use Rattle.std.specs.Prelude.{ℕ, ◌+◌, ◌==◌, Bool, true, false, ◌&&◌, if◌then◌else◌, List, [], ◌∷◌, ◌++◌, map, length, Option, Some, None, flat_map}
 use Rattle.std.specs.List.{list_any}
 use Rattle.sk_tree.specs.Bindings.{bound_to}
 use Rattle.sk_tree.specs.TypingExpressions.{Judged, value_faults, judged_all, use_faults, use_of, called_use, poked_use, set_use, first_dimension}
 use Rattle.sk_tree.specs.TypingInstances.{instance_faults, instance_known, setting_values}
-use Rattle.sk_tree.specs.TypingNames.{Knowns, Around, fault, unless, twice_faults, scalar_faults, numbers}
+use Rattle.sk_tree.specs.TypingNames.{Knowns, Around, fault, unless, twice_faults, numbers}
 use Rattle.sk_tree.specs.declared.names.Fault.{Fault}
-use Rattle.sk_tree.specs.declared.names.FaultKind.TheVariants.{Mismatch}
+use Rattle.sk_tree.specs.declared.names.FaultKind.TheVariants.{Unknown, Mismatch}
 use Rattle.sk_tree.specs.declared.names.Known.{Known}
 use Rattle.sk_tree.specs.declared.names.Known.TheVariants.{Variable, Broken}
 use Rattle.sk_tree.specs.declared.names.Use.TheVariants.{Takes}
@@ -55,6 +55,13 @@ block_faults statements around names = (in_order statements (inside around) name
 abbrev pub of_main : Around → Walked → (names : Knowns) → Walked
 of_main around walked names = if around.in_main then walked else record { faults = fault around Mismatch; names = names }
 
+-- User functions assign to scalars alone: an assignment to what is no scalar is a mismatch there as a whole. `value` is what
+-- is said of the value, which main looks at in any case.
+abbrev pub assign_faults : Around → Option Known → (value : List Fault) → List Fault
+assign_faults around None value = fault around Unknown ++ value
+assign_faults around (Some (Variable (Scalar ty))) value = value
+assign_faults around (Some known) value = fault around Mismatch ++ (if around.in_main then value else [])
+
 -- the faults of an item that is printed
 abbrev pub item_faults : Around → Knowns → Item → List Fault
 item_faults around names (Value expr) = value_faults around names expr
@@ -82,7 +89,7 @@ walking_step (Declare ty name expr) line around names =
     declaring name (Variable (Scalar ty)) (value_faults here names expr) here names
 walking_step (Assign name expr) line around names =
     let here : Around = record around { line = line } in
-    only_faults (scalar_faults here (bound_to name names) ++ value_faults here names expr) names
+    only_faults (assign_faults here (bound_to name names) (value_faults here names expr)) names
 walking_step (Poke name places expr) line around names =
     let here : Around = record around { line = line } in
     of_main here (only_faults (

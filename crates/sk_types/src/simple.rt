@@ -87,7 +87,7 @@ pub(crate) fn declare<'a>(
 }
 
 /// `name = value`
-#[tactic(auto, using(crate::proofs::LeastLemmas::joined))]
+#[tactic(auto, using(crate::proofs::LeastLemmas::assigned, crate::proofs::LeastLemmas::misassigned))]
 pub(crate) fn assign(
     alloc: Global,
     around: &Around,
@@ -95,10 +95,14 @@ pub(crate) fn assign(
     name: &Name,
     expr: &Expr,
 ) -> Result<Option<Fault>, AllocError>
-    ensures { IfOk result (λ told. told ≡
-        least_of (names.scalar_faults (seen around.now) (bound_to name.now scopes.now) ++ expressions.value_faults (seen around.now) scopes.now expr.now)) }
+    ensures { IfOk result (λ told. told ≡ least_of (
+        statements.assign_faults (seen around.now) (bound_to name.now scopes.now) (expressions.value_faults (seen around.now) scopes.now expr.now))) }
 {
-    let target = scalar_fault(around, scopes.find(name.as_bytes()));
+    let known = scopes.find(name.as_bytes());
+    let target = scalar_fault(around, known);
+    if known.is_some() && target.is_some() && !around.in_main {
+        return Ok(target);
+    }
     let value = value_fault(alloc, around, scopes, expr)?;
     Ok(earlier(target, value))
 }

@@ -3,7 +3,7 @@ use crate::rows::{Row, expect_rows};
 use std::test::Fail;
 
 /// What user functions contain and call. A main stands behind them.
-static FUNCTIONS: [Row; 30] = [
+static FUNCTIONS: [Row; 37] = [
     (
         "int f(int a) { int b = a; if (b) { b = 2; } else { b--; } for (int i = 0; i < b; i++) { b += i; } return b; }",
         "typed",
@@ -55,6 +55,25 @@ static FUNCTIONS: [Row; 30] = [
     (
         "int f(skepu::Vec<int> v) {\nv = 1;\nreturn 0; }",
         "mismatch 2",
+    ),
+    (
+        "int f(skepu::Vec<int> v) {\nv = zzz;\nreturn 0; }",
+        "mismatch 2",
+    ),
+    (
+        "int f(skepu::Vec<int> v) {\nfor (v = zzz; v(0); v++) { }\nreturn 0; }",
+        "mismatch 2",
+    ),
+    (
+        "int f(skepu::Index1D i) {\ni += zzz;\nreturn 0; }",
+        "mismatch 2",
+    ),
+    ("int f(int a) {\nf = zzz;\nreturn a; }", "mismatch 2"),
+    ("int f(int a) {\nzzz = a;\nreturn a; }", "unknown 2"),
+    ("int f(int a) {\na = zzz;\nreturn a; }", "unknown 2"),
+    (
+        "int f(skepu::Vec<int> v) {\nv = 1; int a = zzz;\nreturn a; }",
+        "unknown 2",
     ),
     (
         "int f(int a) { if (a) {\nstd::cout << 1; }\nreturn a; }",

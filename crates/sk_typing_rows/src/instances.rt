@@ -11,7 +11,7 @@ int main() { int n = 1;
 ";
 
 /// Statements of main from the third line on.
-static INSTANCES: [Row; 54] = [
+static INSTANCES: [Row; 58] = [
     // main's outermost block
     ("auto m = skepu::Map(inc);", "typed"),
     ("if (1) {\nauto m = skepu::Map(inc); }", "mismatch 4"),
@@ -91,6 +91,10 @@ static INSTANCES: [Row; 54] = [
     ("auto a = skepu::Map(inc, inc);", "arity 3"),
     ("auto a = skepu::Reduce(add, add);", "arity 3"),
     ("auto a = skepu::MapReduce(zzz);", "unknown 3"),
+    ("auto a = skepu::MapReduce(near);", "arity 3"),
+    ("auto a = skepu::MapReduce(n);", "mismatch 3"),
+    ("auto a = skepu::Map<2>(inc); a.setPad(1);", "arity 3"),
+    ("auto a = skepu::Map<2>(inc); a.setPad(zzz);", "unknown 3"),
     ("auto a = skepu::Map(n);", "mismatch 3"),
     ("auto a = skepu::Map(main);", "mismatch 3"),
     ("auto a = skepu::Map(zzz);", "unknown 3"),

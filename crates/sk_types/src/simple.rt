@@ -1,4 +1,4 @@
-ghost use Rattle.std.specs.Prelude.{◌≡◌, ◌++◌, [], ◌∷◌, flat_map, IfOk, OnOk};
+ghost use Rattle.std.specs.Prelude.{◌≡◌, ◌++◌, [], ◌∷◌, flat_map, if◌then◌else◌, IfOk, OnOk};
 ghost use Rattle.sk_tree.specs.Bindings.{bound_to};
 ghost use Rattle.sk_tree.specs.TypingExpressions as expressions;
 ghost use Rattle.sk_tree.specs.TypingFaults.{earlier, least_of};
@@ -13,7 +13,7 @@ ghost use Rattle.sk_types.specs.Told.{seen};
 
 use crate::argument::use_fault;
 use crate::around::Around;
-use crate::expression::{judge_all, scalar_fault};
+use crate::expression::judge_all;
 use crate::instance::{instance_fault, instance_known};
 use crate::least::earlier;
 use crate::places::numbers;
@@ -86,8 +86,25 @@ pub(crate) fn declare<'a>(
     )
 }
 
+// The fault that is told of a value that main alone looks at.
+fn value_in_main(
+    alloc: Global,
+    around: &Around,
+    scopes: &Scopes,
+    expr: &Expr,
+) -> Result<Option<Fault>, AllocError>
+    ensures { IfOk result (λ told. told ≡
+        least_of (if around.now.in_main then expressions.value_faults (seen around.now) scopes.now expr.now else [])) }
+{
+    if around.in_main {
+        value_fault(alloc, around, scopes, expr)
+    } else {
+        Ok(None)
+    }
+}
+
 /// `name = value`
-#[tactic(auto, using(crate::proofs::LeastLemmas::assigned, crate::proofs::LeastLemmas::misassigned))]
+#[tactic(auto, using(crate::proofs::LeastLemmas::joined))]
 pub(crate) fn assign(
     alloc: Global,
     around: &Around,
@@ -98,13 +115,17 @@ pub(crate) fn assign(
     ensures { IfOk result (λ told. told ≡ least_of (
         statements.assign_faults (seen around.now) (bound_to name.now scopes.now) (expressions.value_faults (seen around.now) scopes.now expr.now))) }
 {
-    let known = scopes.find(name.as_bytes());
-    let target = scalar_fault(around, known);
-    if known.is_some() && target.is_some() && !around.in_main {
-        return Ok(target);
+    match scopes.find(name.as_bytes()) {
+        Some(Known::Variable(ParamKind::Scalar(_))) => value_fault(alloc, around, scopes, expr),
+        Some(_) => {
+            let value = value_in_main(alloc, around, scopes, expr)?;
+            Ok(earlier(around.fault(FaultKind::Mismatch), value))
+        }
+        None => {
+            let value = value_fault(alloc, around, scopes, expr)?;
+            Ok(earlier(around.fault(FaultKind::Unknown), value))
+        }
     }
-    let value = value_fault(alloc, around, scopes, expr)?;
-    Ok(earlier(target, value))
 }
 
 fn poke_in_main(

@@ -11,7 +11,8 @@ use Rattle.sk_isa.specs.Soundness.{IsSound, IsSoundCode, SuitParams}
 use Rattle.sk_isa.specs.Steps.{AreSoundCallees, IsSoundCallee}
 use Rattle.sk_isa.proofs.Runs.{run_ends}
 
-there : {A : Type 0} (list : List A) (k : ℕ) → k < length list → (x : A) × (slice_get list k ≡ Some x)
+-- the element at a place
+pub there : {A : Type 0} (list : List A) (k : ℕ) → k < length list → (x : A) × (slice_get list k ≡ Some x)
 there [] k h = absurd (omega arith)
 there (x ∷ list) zero h = (x, refl)
 there (x ∷ list) (suc k) h = there list k (omega arith)
@@ -26,6 +27,9 @@ last [] zero x h = refl
 last [] (suc k) x h = absurd (omega arith)
 last (y ∷ list) zero x h = absurd (omega arith)
 last (y ∷ list) (suc k) x h = last list k x (omega arith)
+
+last_or_not : (a b : ℕ) → a < suc b → (a < b) ⊎ (a ≡ b)
+last_or_not a b h = grind arith
 
 -- one function more
 callees-next : (signatures : List Signature) (codes : List Code) (below : ℕ) (own : Signature) (code : Code)
@@ -96,9 +100,6 @@ module _ (signatures : List Signature) (codes : List Code) (enough : length code
         (callees-last below own code upto (subst (λ (f : ℕ). slice_get signatures f ≡ Some own) same is_own)
         (subst (λ (f : ℕ). slice_get codes f ≡ Some code) same is_code))
   ]
-    where
-      last_or_not : (a b : ℕ) → a < suc b → (a < b) ⊎ (a ≡ b)
-      last_or_not a b h = grind arith
 
   -- codes of which each is sound
   module _ (sound : (function : ℕ) (code : Code) (own : Signature) → slice_get codes function ≡ Some code → slice_get signatures function ≡ Some own
@@ -120,9 +121,6 @@ module _ (signatures : List Signature) (codes : List Code) (enough : length code
         none k h = omega arith
     callees_are_sound (suc below) upto = one_more (callees_are_sound below (omega arith)) (function_at below (omega arith))
       where
-        last_or_not : (a b : ℕ) → a < suc b → (a < b) ⊎ (a ≡ b)
-        last_or_not a b h = grind arith
-
         one_more : AreSoundCallees signatures below (callees_below signatures codes below) → IsFunction below
             → AreSoundCallees signatures (suc below) (callees_below signatures codes (suc below))
         one_more before f = record { count = callees-length (suc below) upto; each = each }

@@ -3,7 +3,6 @@ use Rattle.std.proofs.Common.{◌≡◌, ℕ, zero, suc, ◌<◌, ◌≤◌, Boo
 use Rattle.std.proofs.lemmas.Bool.Decides.{nat_tests}
 use Rattle.std.proofs.lemmas.Option.{slice_get_within, same_Some}
 use Rattle.std.specs.Cmp.{first_so}
-use Rattle.std.specs.List.{list_any}
 use Rattle.sk_base.specs.declared.number.Op.{Op}
 use Rattle.sk_base.specs.declared.number.Trap.{Trap}
 use Rattle.sk_base.specs.declared.number.Ty.{Ty}
@@ -12,7 +11,7 @@ use Rattle.sk_base.specs.Arithmetic.{InRange, wrapped, op_of, is_shift}
 use Rattle.sk_base.specs.ArithmeticLaws.{wrapped-in_range, flag-in_range}
 use Rattle.sk_tree.specs.Evaluation.{element_at, field_of, kind_type}
 use Rattle.sk_tree.specs.Expressions.{holds, prefix_of, result_type}
-use Rattle.sk_tree.specs.Lexemes.{same_bytes}
+use Rattle.sk_tree.specs.TypingNames.{is_field}
 use Rattle.sk_tree.specs.declared.tree.ParamKind.{ParamKind}
 use Rattle.sk_tree.specs.declared.tree.ParamKind.TheVariants.{Proxy, Region as RegionKind}
 use Rattle.sk_tree.specs.declared.tree.Un.TheVariants as prefix
@@ -21,7 +20,7 @@ use Rattle.sk_isa.specs.declared.code.Instr.TheVariants.{Push, Pop, Load, Store,
 use Rattle.sk_isa.specs.declared.object.Signature.{Signature}
 use Rattle.sk_isa.specs.Coded.{Callee, Ends, Goes, Point, Routine, Stuck, giving, going, next_of, returning, stored, turning, with_many, with_one}
 use Rattle.sk_isa.specs.Kernels.{AreOfTypes}
-use Rattle.sk_isa.specs.Soundness.{IsOfType, Named, SuitsParam, fields_of, has_field, is_number, item_type, leads_to, left_by, left_by_call, left_by_ret, left_if, left_with, number_type, of_many, of_one, region_type, scalar_in, serve_for, serves}
+use Rattle.sk_isa.specs.Soundness.{IsOfType, Named, SuitsParam, has_field, is_number, item_type, leads_to, left_by, left_by_call, left_by_ret, left_if, left_with, number_type, of_many, of_one, region_type, scalar_in, serve_for, serves}
 use Rattle.sk_isa.specs.Steps.{IsSoundCallee, TakesTurns}
 use Rattle.sk_isa.proofs.Steps.{IsLeftBy, IsLeftNext, Standing, found_so, giving_so, going_so, item_so, left_if_so, left_with_so, of_many_so, of_one_so, of_two_so, pushed, region_so, returning_so, scalar_so, slot_type}
 use Rattle.sk_isa.proofs.TypedLists.{suited_at, typed-length, typed-set, typed_arguments, typed_at}
@@ -94,7 +93,7 @@ module _ (named : Named) (routine : Routine) (point : Point) (standing : Standin
       there (slice_get named.own.params slot) refl parts.0 parts.1
     where
       there : (found : Option ParamKind) → slice_get named.own.params slot ≡ found
-          → elim found [ Some kind ↦ list_any (same_bytes name) (fields_of kind) | None ↦ false ] ≡ true → Int ∷ types ≡ left
+          → elim found [ Some kind ↦ is_field kind name | None ↦ false ] ≡ true → Int ∷ types ≡ left
           → IsLeftNext named.own left point (next_of routine (Field slot name) point)
       there None is test same = cc
       there (Some kind) is test same =

@@ -71,6 +71,9 @@ into_upto : (instrs : List Instr) (end at steps : ℕ) → Into instrs end at st
 into_upto instrs end at steps (arrives e) = omega arith
 into_upto instrs end at steps (goes_on low to step rest) = omega arith
 
+at_or_below : (a b : ℕ) → a ≤ b → (a ≡ b) ⊎ (a < b)
+at_or_below a b h = grind arith
+
 -- A way that begins at or below a turn, over which nothing jumps, does not come past it.
 stops_at_turn : (instrs : List Instr) (turn end : ℕ) → slice_get instrs turn ≡ Some Turn → turn < end
     → ((before behind : ℕ) → JumpsTo instrs before behind → before < turn → turn < behind → behind ≤ end → ⊥)
@@ -88,9 +91,6 @@ stops_at_turn instrs turn end is_turn low none_over at (suc steps) upto (goes_on
       ]
     ]
   where
-    at_or_below : (a b : ℕ) → a ≤ b → (a ≡ b) ⊎ (a < b)
-    at_or_below a b h = grind arith
-
     upto_or_past : (a b : ℕ) → (a ≤ b) ⊎ (b < a)
     upto_or_past a b = grind arith
 
@@ -105,13 +105,10 @@ no_return instrs loops end to steps step way = elim (step_cases instrs end to st
     beyond upto next = omega arith
 
     round : JumpsTo instrs end to → PassesTurn instrs end to → ⊥
-    round jump passes = elim (apart passes.turn end passes.upto) [
+    round jump passes = elim (at_or_below passes.turn end passes.upto) [
       | inl same ↦ no_jump instrs end to (subst (λ (t : ℕ). slice_get instrs t ≡ Some Turn) same passes.is_turn) jump
       | inr low ↦ stops_at_turn instrs passes.turn end passes.is_turn low passes.none_over to steps passes.from way
     ]
-      where
-        apart : (a b : ℕ) → a ≤ b → (a ≡ b) ⊎ (a < b)
-        apart a b h = grind arith
 
 -- A way below the next bound stays below the bound, or it comes to the bound once and goes on from there.
 pub record Visits (instrs : List Instr) (bound at steps : ℕ) : Type 0 where
@@ -121,16 +118,16 @@ pub record Visits (instrs : List Instr) (bound at steps : ℕ) : Type 0 where
   pub way_out : Way instrs (suc bound) bound behind
   pub sum : before + behind ≡ steps
 
+below_or_at : (a b : ℕ) → a < suc b → (a < b) ⊎ (a ≡ b)
+below_or_at a b h = grind arith
+
 visits_or_not : (instrs : List Instr) (bound at steps : ℕ) → Way instrs (suc bound) at steps
     → Way instrs bound at steps ⊎ Visits instrs bound at steps
-visits_or_not instrs bound at zero (stays low) = elim (apart at bound low) [
+visits_or_not instrs bound at zero (stays low) = elim (below_or_at at bound low) [
   | inl below ↦ inl (stays below)
   | inr same ↦ inr (record { before = 0; way_in = arrives same; behind = 0; way_out = stays (omega arith); sum = refl })
 ]
-  where
-    apart : (a b : ℕ) → a < suc b → (a < b) ⊎ (a ≡ b)
-    apart a b h = grind arith
-visits_or_not instrs bound at (suc steps) (goes low to step rest) = elim (apart at bound low) [
+visits_or_not instrs bound at (suc steps) (goes low to step rest) = elim (below_or_at at bound low) [
   | inl below ↦ elim (visits_or_not instrs bound to steps rest) [
     | inl stays_below ↦ inl (goes below to step stays_below)
     | inr visits ↦ inr (record {
@@ -150,9 +147,6 @@ visits_or_not instrs bound at (suc steps) (goes low to step rest) = elim (apart 
   })
 ]
   where
-    apart : (a b : ℕ) → a < suc b → (a < b) ⊎ (a ≡ b)
-    apart a b h = grind arith
-
     more : (m k : ℕ) → m + k ≡ steps → suc m + k ≡ suc steps
     more m k e = omega arith
 

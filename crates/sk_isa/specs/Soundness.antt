@@ -1,5 +1,5 @@
 -- Code that never lacks what an instruction needs, and whose loops all take turns.
-use Rattle.std.specs.Prelude.{◌≡◌, ◌^◌, ◌⊎◌, ℕ, suc, ◌<◌, ◌≤◌, Bool, true, false, ◌&&◌, ◌||◌, ◌==◌, nat_le, nat_lt, if◌then◌else◌, List, [], ◌∷◌, length, take, drop, reverse, All, ℤ, pos, negsuc, Option, Some, None, Result, Ok, Err, IsSomeAnd, IsOk, Contains, slice_get, slice_index_or, int_le, codes}
+use Rattle.std.specs.Prelude.{◌≡◌, ◌^◌, ◌⊎◌, ℕ, suc, ◌<◌, ◌≤◌, Bool, true, false, ◌&&◌, ◌||◌, ◌==◌, nat_le, nat_lt, if◌then◌else◌, List, [], ◌∷◌, length, take, drop, reverse, All, ℤ, pos, negsuc, Option, Some, None, Result, Ok, Err, IsSomeAnd, IsOk, Contains, slice_get, int_le}
 use Rattle.std.specs.Cmp.Lexicographic.{pointwise}
 use Rattle.std.specs.List.{list_any, list_all}
 use Rattle.sk_base.specs.declared.number.Ty.{Ty}
@@ -11,9 +11,8 @@ use Rattle.sk_base.specs.Shape.{IsShape, cells_of}
 use Rattle.sk_tree.specs.Eager.{leading_scalars}
 use Rattle.sk_tree.specs.Evaluation.{Argument, Value, Place, Whole, Neighbours}
 use Rattle.sk_tree.specs.Expressions.{result_type}
-use Rattle.sk_tree.specs.Lexemes.{same_bytes}
 use Rattle.sk_tree.specs.TypingInstances.{function_count, is_operator, fits_skeleton}
-use Rattle.sk_tree.specs.TypingNames.{are_ordered}
+use Rattle.sk_tree.specs.TypingNames.{are_ordered, is_field}
 pub use Rattle.sk_tree.specs.TypingNames.{is_scalar}
 use Rattle.sk_tree.specs.declared.tree.ParamKind.{ParamKind}
 use Rattle.sk_tree.specs.declared.tree.ParamKind.TheVariants.{Scalar, Index, Proxy, Region as RegionKind}
@@ -76,30 +75,10 @@ scalar_in named slot = elim (slice_get named.own.slots slot) [
   | None ↦ None
 ]
 
--- the fields of a parameter, by its dimension from 0
-abbrev pub index_fields : List (List (List ℕ))
-index_fields =
-    [] ∷ (codes "i" ∷ []) ∷ (codes "row" ∷ codes "col" ∷ []) ∷ (codes "i" ∷ codes "j" ∷ codes "k" ∷ [])
-    ∷ (codes "i" ∷ codes "j" ∷ codes "k" ∷ codes "l" ∷ []) ∷ []
-
-abbrev pub proxy_fields : List (List (List ℕ))
-proxy_fields =
-    [] ∷ (codes "size" ∷ []) ∷ (codes "size" ∷ codes "rows" ∷ codes "cols" ∷ [])
-    ∷ (codes "size" ∷ codes "size_i" ∷ codes "size_j" ∷ codes "size_k" ∷ [])
-    ∷ (codes "size" ∷ codes "size_i" ∷ codes "size_j" ∷ codes "size_k" ∷ codes "size_l" ∷ []) ∷ []
-
-abbrev pub region_fields : List (List (List ℕ))
-region_fields = [] ∷ (codes "oi" ∷ []) ∷ (codes "oi" ∷ codes "oj" ∷ []) ∷ []
-
-abbrev pub fields_of : ParamKind → List (List ℕ)
-fields_of (Scalar ty) = []
-fields_of (Index dimension) = slice_index_or index_fields dimension []
-fields_of (Proxy dimension ty) = slice_index_or proxy_fields dimension []
-fields_of (RegionKind dimension ty) = slice_index_or region_fields dimension []
-
+-- a parameter has a field of that name
 abbrev pub has_field : Named → (slot : ℕ) → List ℕ → Bool
 has_field named slot field =
-    elim (slice_get named.own.params slot) [ Some kind ↦ list_any (same_bytes field) (fields_of kind) | None ↦ false ]
+    elim (slice_get named.own.params slot) [ Some kind ↦ is_field kind field | None ↦ false ]
 
 -- the type of an element of a proxy with that many places
 abbrev pub item_type : Named → (slot places : ℕ) → Option Ty

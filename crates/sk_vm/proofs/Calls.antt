@@ -20,12 +20,12 @@ use Rattle.sk_isa.specs.Coded.{Callee, Point, Routine, Next, Goes, Ends, Stuck, 
 use Rattle.sk_isa.specs.Instances.{signature_at}
 use Rattle.sk_isa.specs.Kernels.{AreOfTypes}
 use Rattle.sk_isa.specs.Soundness.{AreSlots, IsSound, Left, Named, SuitParams, left_by, left_by_call, left_if, of_many, serve_for}
-use Rattle.sk_isa.proofs.Callees.{functions_have_values, function_of-code}
+use Rattle.sk_isa.proofs.Callees.{functions_have_values, function_of-code, there}
 use Rattle.sk_isa.proofs.TypedLists.{typed-length, typed-reverse, typed-take, typed_arguments}
 use Rattle.sk_vm.specs.declared.stack.Stand.{Stand}
 use Rattle.sk_vm.specs.Rooms.{Begins, depth_at, depth_below, given_to, slots_at, slots_below}
 use Rattle.sk_vm.specs.Points.{values_in, point_at}
-use Rattle.sk_vm.proofs.Starts.{there, signature_at-is, slots_at-is}
+use Rattle.sk_vm.proofs.Starts.{signature_at-is, slots_at-is}
 use Rattle.sk_vm.proofs.Values.{length-values_in}
 
 -- a call finds its function and its arguments, and leaves one value in their place
@@ -41,18 +41,13 @@ pub call_found : (named : Named) (callee : ℕ) (types left : List Ty) (values :
     → FindsCall named.signatures named.function callee left values
 call_found named callee types left values e typed = by_number (nat_lt callee named.function) refl e
   where
-    length-drop : {A : Type 0} (n : ℕ) (xs : List A) → n ≤ length xs → length (drop n xs) + n ≡ length xs
-    length-drop zero xs h = omega arith
-    length-drop (suc n) [] h = absurd (omega arith)
-    length-drop (suc n) (x ∷ xs) h = let rest = length-drop n xs (omega arith) in omega arith
-
     by_types : (own : Signature) → callee < named.function → slice_get named.signatures callee ≡ Some own → (enough : length own.params ≤ length types) → (serve : _)
         → serve_for (reverse (take (length own.params) types)) own.params ≡ serve → left_if serve (own.ret ∷ drop (length own.params) types) ≡ Some left
         → FindsCall named.signatures named.function callee left values
     by_types own before is enough true serves e =
         let count = typed-length types values typed in
         let same : own.ret ∷ drop (length own.params) types ≡ left = cc in
-        let dropped = length-drop (length own.params) types enough in
+        let dropped = length-drop (length own.params) types in
         let tall : suc (length (drop (length own.params) types)) ≡ length left = ap length same in
         record {
           before = before;
@@ -107,34 +102,30 @@ calls-next object sound function callee upto before routine callees point enough
     ∙ ap (λ (s : Signature). returning point (drop (length s.params) point.stack)
     (function_of object callee (map Value (reverse (take (length s.params) point.stack))) point.turns)) (sym is)
 
+-- what does not fall from a number to the next does not fall from a number to a greater one
+rising : (f : ℕ → ℕ) → ((n : ℕ) → f n ≤ f (suc n)) → (few many : ℕ) → few ≤ many → f few ≤ f many
+rising f up few zero h = subst (λ (n : ℕ). f n ≤ f 0) (none few h) (omega arith)
+  where
+    none : (n : ℕ) → n ≤ 0 → 0 ≡ n
+    none n h = omega arith
+rising f up few (suc many) h = by (λ less. rising f up few many less) (last_or_not few many h)
+  where
+    last_or_not : (a b : ℕ) → a ≤ suc b → (a ≤ b) ⊎ (suc b ≡ a)
+    last_or_not a b h = grind arith
+
+    by : (few ≤ many → f few ≤ f many) → (few ≤ many) ⊎ (suc many ≡ few) → f few ≤ f (suc many)
+    by below (inl less) =
+        let upto = below less in
+        let further = up many in
+        omega arith
+    by below (inr same) = subst (λ (n : ℕ). f n ≤ f (suc many)) same (omega arith)
+
 -- functions below take no more room than those below a greater number
 pub depth_below-le : (codes : List Code) (few many : ℕ) → few ≤ many → depth_below codes few ≤ depth_below codes many
-depth_below-le codes few zero h = subst (λ (n : ℕ). depth_below codes n ≤ 0) (none few h) (omega arith)
-  where
-    none : (n : ℕ) → n ≤ 0 → 0 ≡ n
-    none n h = omega arith
-depth_below-le codes few (suc many) h = by (λ less. depth_below-le codes few many less) (last_or_not few many h)
-  where
-    last_or_not : (a b : ℕ) → a ≤ suc b → (a ≤ b) ⊎ (suc b ≡ a)
-    last_or_not a b h = grind arith
-
-    by : (few ≤ many → depth_below codes few ≤ depth_below codes many) → (few ≤ many) ⊎ (suc many ≡ few) → depth_below codes few ≤ depth_below codes (suc many)
-    by below (inl less) = let h = below less in omega arith
-    by below (inr same) = subst (λ (n : ℕ). depth_below codes n ≤ depth_below codes (suc many)) same (omega arith)
+depth_below-le codes = rising (depth_below codes) (λ n. omega arith)
 
 pub slots_below-le : (codes : List Code) (few many : ℕ) → few ≤ many → slots_below codes few ≤ slots_below codes many
-slots_below-le codes few zero h = subst (λ (n : ℕ). slots_below codes n ≤ 0) (none few h) (omega arith)
-  where
-    none : (n : ℕ) → n ≤ 0 → 0 ≡ n
-    none n h = omega arith
-slots_below-le codes few (suc many) h = by (λ less. slots_below-le codes few many less) (last_or_not few many h)
-  where
-    last_or_not : (a b : ℕ) → a ≤ suc b → (a ≤ b) ⊎ (suc b ≡ a)
-    last_or_not a b h = grind arith
-
-    by : (few ≤ many → slots_below codes few ≤ slots_below codes many) → (few ≤ many) ⊎ (suc many ≡ few) → slots_below codes few ≤ slots_below codes (suc many)
-    by below (inl less) = let h = below less in omega arith
-    by below (inr same) = subst (λ (n : ℕ). slots_below codes n ≤ slots_below codes (suc many)) same (omega arith)
+slots_below-le codes = rising (slots_below codes) (λ n. omega arith)
 
 -- the arguments of a call, as they lie in the buffer
 values_in-more : (stack : List ℤ) (top more : ℕ) → more ≡ suc top → values_in stack more ≡ slice_index_or stack top (pos 0) ∷ values_in stack top

@@ -3,21 +3,21 @@ use Rattle.std.proofs.Common.{◌≡◌, ℕ, zero, suc, ◌<◌, ◌≤◌, ◌
 use Rattle.std.proofs.lemmas.List.{length-map}
 use Rattle.std.specs.Cmp.{first_so, second_so}
 use Rattle.std.specs.Cmp.Lexicographic.{pointwise}
-use Rattle.std.specs.List.{list_all, list_any}
+use Rattle.std.specs.List.{list_all}
 use Rattle.std.proofs.lemmas.Option.{slice_get_within}
 use Rattle.sk_base.specs.declared.number.Op.{Op}
 use Rattle.sk_base.specs.declared.number.Ty.{Ty}
 use Rattle.sk_base.specs.Arithmetic.{InRange, is_shift}
 use Rattle.sk_tree.specs.Evaluation.{kind_type}
-use Rattle.sk_tree.specs.Lexemes.{same_bytes}
+use Rattle.sk_tree.specs.TypingNames.{is_field}
 use Rattle.sk_tree.specs.declared.tree.ParamKind.{ParamKind}
 use Rattle.sk_tree.specs.declared.tree.ParamKind.TheVariants.{Scalar, Index, Proxy, Region as RegionKind}
 use Rattle.sk_isa.specs.declared.code.Instr.{Instr}
 use Rattle.sk_isa.specs.declared.code.Instr.TheVariants.{Push, Pop, Load, Store, Field, Size, Item, Region, Neg, Inv, Not, Wrap, Binary, Jump, Zero, Turn, Call, Ret, Count, Make, Take, Drop, Set, Do, Get, Poke, Print, Text, Endl, Halt}
 use Rattle.sk_isa.specs.declared.object.Signature.{Signature}
 use Rattle.sk_isa.specs.Kernels.{AreOfTypes}
-use Rattle.sk_isa.specs.Soundness.{Left, Named, fields_of, has_field, is_number, is_scalar, item_type, leads_to, left_by, left_if, left_with, number_type, of_many, of_one, of_two, region_type, scalar_in, serves, left_by_ret}
-use Rattle.sk_isa.proofs.Steps.{left_with_so, scalar_so, item_so, region_so}
+use Rattle.sk_isa.specs.Soundness.{Left, Named, has_field, is_number, is_scalar, item_type, leads_to, left_by, left_if, left_with, number_type, of_many, of_one, of_two, region_type, scalar_in, serves, left_by_ret}
+use Rattle.sk_isa.proofs.Steps.{left_if_so, left_with_so, scalar_so, item_so, region_so}
 use Rattle.sk_isa.proofs.TypedLists.{typed-length}
 use Rattle.sk_isa.proofs.Values.{served}
 use Rattle.sk_vm.specs.Needs.{Needs}
@@ -38,10 +38,6 @@ one_there (ty ∷ rest) left next stack top e typed = let tall : suc (length res
 typed_last : (ty : Ty) (rest : List Ty) (stack : List ℤ) (top : ℕ) → 0 < top → AreOfTypes (ty ∷ rest) (values_in stack top)
     → InRange ty (slice_index_or stack (top - 1) (pos 0)) × AreOfTypes rest (values_in stack (top - 1))
 typed_last ty rest stack top some typed = subst (λ (values : List ℤ). AreOfTypes (ty ∷ rest) values) (values_in-last stack top some) typed
-
-left_if_so : (test : Bool) (types left : List Ty) → left_if test types ≡ Some left → (test ≡ true) × (types ≡ left)
-left_if_so true types left e = (refl, cc)
-left_if_so false types left e = cc
 
 -- the right operand of an operator, unless it is a count
 right_served : (shift fits : Bool) → (shift || fits) ≡ true → shift ≡ false → fits ≡ true
@@ -81,7 +77,7 @@ all_at (own ∷ kinds) zero kind all e = let same : own ≡ kind = cc in subst (
 all_at (own ∷ kinds) (suc k) kind all e = all_at kinds k kind (second_so (is_scalar own) (list_all is_scalar kinds) all) e
 
 no_field : (found : Option ParamKind) (name : List ℕ) → ((kind : ParamKind) → found ≡ Some kind → is_scalar kind ≡ true)
-    → elim found [ Some kind ↦ list_any (same_bytes name) (fields_of kind) | None ↦ false ] ≡ true → ⊥
+    → elim found [ Some kind ↦ is_field kind name | None ↦ false ] ≡ true → ⊥
 no_field None name scalars e = cc
 no_field (Some (Scalar ty)) name scalars e = cc
 no_field (Some (Index dimension)) name scalars e = let not_so : false ≡ true = scalars (Index dimension) refl in cc

@@ -14,12 +14,12 @@ use Rattle.sk_isa.specs.Instances.{Reading, function_meaning, invoked, signature
 use Rattle.sk_isa.specs.Kernels.{Agree, Source, Suits, given_by}
 use Rattle.sk_isa.specs.Soundness.{IsSound, SuitParams, TakesScalars, is_scalar}
 use Rattle.sk_isa.specs.Steps.{IsGiven}
-use Rattle.sk_isa.proofs.Callees.{functions_have_values}
+use Rattle.sk_isa.proofs.Callees.{functions_have_values, there}
 use Rattle.sk_vm.specs.Arguments.{CanPass, Passes}
 use Rattle.sk_vm.specs.Rooms.{Begins, given_to, slots_at}
 use Rattle.sk_vm.proofs.Arguments.{can_pass, suited, as_defined}
 use Rattle.sk_vm.proofs.Middle.{params_scalar, scalar_slots}
-use Rattle.sk_vm.proofs.Starts.{signature_at-is, there}
+use Rattle.sk_vm.proofs.Starts.{signature_at-is}
 
 -- the parameters of each function are scalars, and at most 64
 pub scalars_only : (object : Object) → IsSound object → TakesScalars object → (function : ℕ) → function < length object.functions

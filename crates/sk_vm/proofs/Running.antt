@@ -2,23 +2,19 @@
 use Rattle.std.proofs.Common.{◌≡◌, ℕ, zero, suc, ◌+◌, ◌-◌, ◌*◌, ◌^◌, ◌<◌, ◌≤◌, true, List, [], ◌∷◌, ◌++◌, length, take, drop, map, replicate, All, Contains, ℤ, pos, Option, Some, None, Result, Ok, Err, IsSomeAnd, slice_get, refl, sym, ap, subst, ◌∙◌, arith}
 use Rattle.std.specs.List.{list_all}
 use Rattle.std.proofs.lemmas.Option.{same_Some, slice_get_within}
-use Rattle.std.proofs.lemmas.Nat.{mul-le}
 use Rattle.std.specs.Cmp.Lexicographic.{pointwise}
 use Rattle.sk_base.specs.declared.number.Trap.{Trap}
 use Rattle.sk_base.specs.declared.number.Ty.{Ty}
 use Rattle.sk_tree.specs.Evaluation.{Argument, Value}
 use Rattle.sk_isa.specs.declared.code.Code.{Code}
 use Rattle.sk_isa.specs.declared.code.Instr.{Instr}
-use Rattle.sk_isa.specs.declared.code.Instr.TheVariants.{Turn}
 use Rattle.sk_isa.specs.declared.object.Object.{Object}
 use Rattle.sk_isa.specs.declared.object.Signature.{Signature}
 use Rattle.sk_isa.specs.Coded.{Point, Routine, Next, Goes, Ends, Outcome, Ended, Lost, followed, next_of, outcome_of, routine_of, start_of, callees_below, function_of}
 use Rattle.sk_isa.specs.Ranks.{rank}
 use Rattle.sk_isa.specs.Soundness.{IsSound, IsSoundCode, SuitParams, LoopsTakeTurns, leads_to, serves}
 use Rattle.sk_isa.specs.Steps.{IsFineNext, IsFinePoint, IsFineStep, TakesTurns}
-use Rattle.sk_isa.proofs.Callees.{are_ready, functions_have_values}
-use Rattle.sk_isa.proofs.Ranks.{rank_bound, rank_falls}
-use Rattle.sk_isa.proofs.Runs.{steps_are_fine}
+use Rattle.sk_isa.proofs.Runs.{measure_falls, outcome-next}
 use Rattle.sk_vm.specs.declared.stack.Stand.{Stand}
 use Rattle.sk_vm.specs.Points.{point_at}
 use Rattle.sk_vm.specs.Rooms.{given_to, instrs_at}
@@ -46,29 +42,6 @@ pub record Running (object : Object) (function : ℕ) (begun : List ℤ) (turns 
   pub comes_to : (steps : ℕ) (result : Result (ℤ × ℕ) Trap)
       → outcome_of (routine_at object function code begun) steps (point_at stand stack slots) ≡ Ended result
       → function_of object function (arguments_of object function begun) turns ≡ result
-
--- turns and rank together fall with each step
-falls_without : (a b p r s : ℕ) → b ≤ a → s < r → b * p + s < a * p + r
-falls_without a b p r s upto less = let h : b * p ≤ a * p = mul-le b p a p upto (omega arith) in omega arith
-
-falls_with : (a b p r s : ℕ) → a ≡ suc b → s < p → b * p + s < a * p + r
-falls_with a b p r s is less = let h : a * p ≡ b * p + p = ap (λ n. n * p) is ∙ omega arith in omega arith
-
-measure_falls : (instrs : List Instr) → LoopsTakeTurns instrs → (instr : Instr) (at to before behind : ℕ) → slice_get instrs at ≡ Some instr
-    → Contains (leads_to instr at) to → TakesTurns instr before behind
-    → behind * 2 ^ length instrs + rank instrs to < before * 2 ^ length instrs + rank instrs at
-measure_falls instrs loops Turn at to before behind found led turns =
-    falls_with before behind (2 ^ length instrs) (rank instrs at) (rank instrs to) turns (rank_bound instrs loops to)
-measure_falls instrs loops instr at to before behind found led turns =
-    falls_without before behind (2 ^ length instrs) (rank instrs at) (rank instrs to) turns
-    (subst (λ (t : ℕ). rank instrs t < rank instrs at) led.2 (rank_falls instrs loops at instr found (λ e. cc) led.0 to led.1))
-
--- one step of a run
-outcome-next : (routine : Routine) (steps : ℕ) (point : Point) (instr : Instr) → slice_get routine.instrs point.at ≡ Some instr
-    → outcome_of routine (suc steps) point ≡ followed (next_of routine instr point) (outcome_of routine steps)
-unfolding outcome_of
-outcome-next routine steps point instr found =
-    ap (λ (f : Option Instr). elim f [ Some instr ↦ followed (next_of routine instr point) (outcome_of routine steps) | None ↦ Lost ]) found
 
 -- what a step leads to, where it is known
 step_fine : (own : Signature) (chosen : ℕ → Option (List Ty)) (routine : Routine) (instr found : Instr) (point : Point) (next : Next) (at : Option Instr)

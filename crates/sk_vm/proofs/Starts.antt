@@ -1,7 +1,7 @@
 -- The start of a function's run.
 use Rattle.std.proofs.Common.{◌≡◌, ℕ, zero, suc, ◌-◌, ◌<◌, ◌≤◌, List, [], ◌∷◌, ◌++◌, length, take, drop, map, replicate, ℤ, pos, Option, Some, None, slice_get, refl, sym, ap, subst, ◌∙◌, arith}
 use Rattle.std.specs.Prelude.{Result, if◌then◌else◌}
-use Rattle.std.proofs.lemmas.List.{length-map}
+use Rattle.std.proofs.lemmas.List.{take-append-drop}
 use Rattle.sk_base.specs.declared.number.Trap.{Trap}
 use Rattle.sk_tree.specs.Evaluation.{Argument, Value, number_in}
 use Rattle.sk_tree.specs.declared.tree.ParamKind.{ParamKind}
@@ -14,18 +14,13 @@ use Rattle.sk_isa.specs.Instances.{no_signature, signature_at}
 use Rattle.sk_isa.specs.Laws.{IsReady}
 use Rattle.sk_isa.specs.Soundness.{IsSound, SuitParams}
 use Rattle.sk_isa.specs.Steps.{IsFinePoint}
-use Rattle.sk_isa.proofs.Callees.{are_ready, functions_have_values}
+use Rattle.sk_isa.proofs.Callees.{are_ready, functions_have_values, there}
 use Rattle.sk_isa.proofs.Runs.{start_is_fine, steps_are_fine}
 use Rattle.sk_isa.proofs.TypedLists.{suited-length}
 use Rattle.sk_vm.specs.declared.stack.Stand.{Stand}
 use Rattle.sk_vm.specs.Points.{values_in, point_at}
 use Rattle.sk_vm.specs.Rooms.{Begins, given_to, instrs_at, slots_at}
 use Rattle.sk_vm.proofs.Running.{Running, arguments_of, routine_at}
-
-pub there : {A : Type 0} (list : List A) (k : ℕ) → k < length list → (x : A) × (slice_get list k ≡ Some x)
-there [] k h = absurd (omega arith)
-there (x ∷ list) zero h = (x, refl)
-there (x ∷ list) (suc k) h = there list k (omega arith)
 
 pub signature_at-is : (object : Object) (function : ℕ) (own : Signature) → slice_get object.signatures function ≡ Some own → signature_at object function ≡ own
 signature_at-is object function own is = ap (λ (o : Option Signature). elim o [ Some signature ↦ signature | None ↦ no_signature ]) is
@@ -40,11 +35,6 @@ numbers-back : (numbers : List ℤ) → map number_in (map Value numbers) ≡ nu
 numbers-back [] = refl
 numbers-back (number ∷ numbers) = ap (λ (xs : List ℤ). number ∷ xs) (numbers-back numbers)
 
-parts : (count : ℕ) (slots : List ℤ) → take count slots ++ drop count slots ≡ slots
-parts zero slots = refl
-parts (suc count) [] = refl
-parts (suc count) (x ∷ slots) = ap (λ (xs : List ℤ). x ∷ xs) (parts count slots)
-
 -- slots that begin as they should are those at the start of the code
 slots-start : (object : Object) (function : ℕ) (code : Code) (slots : List ℤ) → slice_get object.functions function ≡ Some code → Begins object function slots
     → slots ≡ map number_in (arguments_of object function slots) ++ replicate (code.slots - length (arguments_of object function slots)) (pos 0)
@@ -53,7 +43,7 @@ slots-start object function code slots code_at begins =
     let given = given_to object function slots in
     let count : length params ≡ length (arguments_of object function slots) = suited-length params (arguments_of object function slots) begins.suited in
     let size : length slots ≡ code.slots = begins.count ∙ slots_at-is object.functions function code code_at in
-    sym (parts (length params) slots)
+    sym (take-append-drop (length params) slots)
     ∙ ap (λ (xs : List ℤ). given ++ xs) begins.others
     ∙ ap (λ (n : ℕ). given ++ replicate (n - length params) (pos 0)) size
     ∙ ap (λ (n : ℕ). given ++ replicate (code.slots - n) (pos 0)) count

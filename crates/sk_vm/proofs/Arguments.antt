@@ -81,6 +81,19 @@ argument-uniform : (source : Source) (elements : ℕ) (pairs : Bool) (place pair
     → argument_at source elements pairs place pair k ≡ slice_get source.uniforms (k - elements)
 argument-uniform source elements pairs place pair k upto = cond-false (nat_lt k elements) _ _ (le-ltb k elements upto)
 
+-- sums of numbers
+pub plus_none : (n : ℕ) → n ≡ n + 0
+plus_none n = omega arith
+
+pub none_plus : (k : ℕ) → 0 + suc k ≡ suc (0 + k)
+none_plus k = omega arith
+
+pub later : (n k : ℕ) → suc n + k ≡ n + suc k
+later n k = omega arith
+
+pub one_more : (n k : ℕ) → suc n + k ≡ suc (n + k)
+one_more n k = omega arith
+
 -- the arguments of the definition
 pub arguments-are : (given : Given) (pairs : Bool) (place pair elements operand uniform : ℕ) (kinds : List ParamKind) (numbers : List ℤ)
     → list_all is_scalar kinds ≡ true → length kinds ≡ length numbers
@@ -99,15 +112,6 @@ arguments-are given pairs place pair zero operand uniform (Scalar ty ∷ kinds) 
     ∙ ap (λ (n : ℕ). Some (slice_index_or (number ∷ numbers) n (pos 0))) (none_plus k)) in
     ap (λ (x : ℤ). Value x ∷ map Value numbers) (sym (get_or_from_slice_get given.uniforms uniform number (pos 0) first))
     ∙ ap (λ (xs : List Argument). Value (slice_index_or given.uniforms uniform (pos 0)) ∷ xs) rest
-  where
-    plus_none : (n : ℕ) → n ≡ n + 0
-    plus_none n = omega arith
-
-    later : (n k : ℕ) → suc n + k ≡ n + suc k
-    later n k = omega arith
-
-    none_plus : (k : ℕ) → 0 + suc k ≡ suc (0 + k)
-    none_plus k = omega arith
 arguments-are given pairs place pair (suc elements) operand uniform (Scalar ty ∷ kinds) (number ∷ numbers) scalars count cells uniforms =
     let first : given.cells operand (element_place pairs operand place pair) ≡ number =
     ap (λ (n : ℕ). given.cells n (element_place pairs n place pair)) (plus_none operand) ∙ cells 0 (omega arith) (omega arith) in
@@ -117,20 +121,11 @@ arguments-are given pairs place pair (suc elements) operand uniform (Scalar ty �
     (λ k less. uniforms k (omega arith) ∙ ap (λ (n : ℕ). Some (slice_index_or (number ∷ numbers) n (pos 0))) (one_more elements k)) in
     ap (λ (x : ℤ). Value x ∷ map Value numbers) (sym first)
     ∙ ap (λ (xs : List Argument). Value (given.cells operand (element_place pairs operand place pair)) ∷ xs) rest
-  where
-    plus_none : (n : ℕ) → n ≡ n + 0
-    plus_none n = omega arith
-
-    later : (n k : ℕ) → suc n + k ≡ n + suc k
-    later n k = omega arith
-
-    one_more : (n k : ℕ) → suc n + k ≡ suc (n + k)
-    one_more n k = omega arith
 arguments-are given pairs place pair elements operand uniform (Index dimension ∷ kinds) (number ∷ numbers) scalars count cells uniforms = cc
 arguments-are given pairs place pair elements operand uniform (Proxy dimension own ∷ kinds) (number ∷ numbers) scalars count cells uniforms = cc
 arguments-are given pairs place pair elements operand uniform (Region dimension own ∷ kinds) (number ∷ numbers) scalars count cells uniforms = cc
 
-same_test : (n : ℕ) → (n == n) ≡ true
+pub same_test : (n : ℕ) → (n == n) ≡ true
 same_test n = grind (arith, nat_tests)
 
 below_or_not : (a b : ℕ) → (a < b) ⊎ (b ≤ a)
@@ -190,15 +185,15 @@ module _ (params : List ParamKind) (elements : ℕ) (pairs : Bool) (source : Sou
   as_defined numbers count passes cells agree =
       arguments-are (given_by source cells) pairs place pair elements 0 0 params numbers scalars count
       (λ k less small.
-      ap (λ (n : ℕ). cells n (element_place pairs n place pair)) (none_plus k)
+      ap (λ (n : ℕ). cells n (element_place pairs n place pair)) (zero_plus k)
       ∙ same_some (cells k (element_place pairs k place pair)) (slice_index_or numbers k (pos 0))
       (sym (agree k (element_place pairs k place pair) (read_at k small)) ∙ sym (argument-element source elements pairs place pair k small) ∙ passes k less))
       (λ k less.
       ap (λ (n : ℕ). slice_get source.uniforms n) (back elements k)
       ∙ sym (argument-uniform source elements pairs place pair (elements + k) (omega arith)) ∙ passes (elements + k) less)
     where
-      none_plus : (k : ℕ) → 0 + k ≡ k
-      none_plus k = omega arith
+      zero_plus : (k : ℕ) → 0 + k ≡ k
+      zero_plus k = omega arith
 
       back : (n k : ℕ) → 0 + k ≡ n + k - n
       back n k = omega arith

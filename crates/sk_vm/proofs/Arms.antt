@@ -1,5 +1,5 @@
 -- Where instructions lead whose stack and slots lie in buffers.
-use Rattle.std.proofs.Common.{◌≡◌, ◌≢◌, ℕ, zero, suc, ◌<◌, ◌≤◌, ◌-◌, Bool, true, false, List, [], ◌∷◌, length, ℤ, pos, negsuc, nat_lt, slice_get, slice_set, slice_index_or, refl, sym, ap, subst, ◌∙◌, arith}
+use Rattle.std.proofs.Common.{◌≡◌, ◌≢◌, ℕ, zero, suc, ◌<◌, ◌-◌, List, [], ◌∷◌, length, ℤ, pos, negsuc, nat_lt, slice_set, slice_index_or, refl, sym, ap, subst, ◌∙◌}
 use Rattle.std.specs.Prelude.{Option, Some, None, if◌then◌else◌}
 use Rattle.std.proofs.lemmas.Option.{slice_get-get_or}
 use Rattle.std.proofs.lemmas.Bool.{cond-true, lt-ltb}
@@ -101,12 +101,3 @@ kept-combined op ty stand before after slots (lead.Goes next) h = tt
 kept-combined op ty stand before after slots (lead.Ends value turns) h = tt
 kept-combined op ty stand before after slots (lead.Traps trap) h = tt
 kept-combined op ty stand before after slots (lead.Calls function) h = let no : Binary op ty ≡ Call function = h [] in cc
-
--- a result that is known
-pub result-leads : (instr : Instr) (before : Point) (result known : Lead) (after slots : List ℤ) → result ≡ known → LeadsTo instr before result after slots
-    → LeadsTo instr before known after slots
-result-leads instr before result known after slots is leads = subst (λ (r : Lead). LeadsTo instr before r after slots) is leads
-
-pub result-kept : (result known : Lead) (stack_before stack slots_before slots : List ℤ) → result ≡ known → KeepsForCall result stack_before stack slots_before slots
-    → KeepsForCall known stack_before stack slots_before slots
-result-kept result known stack_before stack slots_before slots is kept = subst (λ (r : Lead). KeepsForCall r stack_before stack slots_before slots) is kept

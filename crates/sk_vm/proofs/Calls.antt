@@ -1,32 +1,27 @@
 -- Calls of functions.
-use Rattle.std.proofs.Common.{◌≡◌, ℕ, zero, suc, ◌+◌, ◌-◌, ◌<◌, ◌≤◌, true, false, nat_le, nat_lt, List, [], ◌∷◌, ◌++◌, length, take, drop, map, reverse, replicate, All, Contains, ℤ, pos, Option, Some, None, Result, Ok, Err, IsSomeAnd, slice_get, slice_index_or, slice_set, inl, inr, ◌⊎◌, refl, sym, ap, subst, ◌∙◌, arith}
+use Rattle.std.proofs.Common.{◌≡◌, ℕ, zero, suc, ◌+◌, ◌-◌, ◌<◌, ◌≤◌, true, false, nat_le, nat_lt, List, [], ◌∷◌, ◌++◌, length, take, drop, map, reverse, replicate, ℤ, pos, Option, Some, None, Ok, slice_get, slice_index_or, slice_set, inl, inr, ◌⊎◌, refl, sym, ap, subst, ◌∙◌, arith}
 use Rattle.std.specs.Prelude.{if◌then◌else◌}
-use Rattle.std.specs.List.{list_all}
-use Rattle.std.specs.Cmp.Lexicographic.{pointwise}
 use Rattle.std.proofs.lemmas.Bool.{cond-true, le-leb, leb-true, ltb-true}
-use Rattle.std.proofs.lemmas.List.{get_or-drop, length-drop, length-take-le, length-map, reverse-append, take-append-drop}
+use Rattle.std.proofs.lemmas.List.{get_or-drop, length-drop, length-take-le, reverse-append}
 use Rattle.std.proofs.Math.ListN.{get_or-append}
 use Rattle.std.proofs.Math.Seq.{drop-append_seam, get_or-append_seam, take-append_seam, take-suc}
-use Rattle.sk_base.specs.declared.number.Trap.{Trap}
 use Rattle.sk_base.specs.declared.number.Ty.{Ty}
-use Rattle.sk_tree.specs.Evaluation.{Argument, Value}
+use Rattle.sk_tree.specs.Evaluation.{Value}
 use Rattle.sk_tree.specs.declared.tree.ParamKind.{ParamKind}
 use Rattle.sk_isa.specs.declared.code.Code.{Code}
-use Rattle.sk_isa.specs.declared.code.Instr.{Instr}
 use Rattle.sk_isa.specs.declared.code.Instr.TheVariants.{Call}
 use Rattle.sk_isa.specs.declared.object.Object.{Object}
 use Rattle.sk_isa.specs.declared.object.Signature.{Signature}
-use Rattle.sk_isa.specs.Coded.{Callee, Point, Routine, Next, Goes, Ends, Stuck, next_of, returning, with_many, callee_of, callees_below, code_value, function_of}
+use Rattle.sk_isa.specs.Coded.{Callee, Point, Routine, Goes, Stuck, next_of, returning, with_many, callee_of, callees_below, function_of}
 use Rattle.sk_isa.specs.Instances.{signature_at}
 use Rattle.sk_isa.specs.Kernels.{AreOfTypes}
-use Rattle.sk_isa.specs.Soundness.{AreSlots, IsSound, Left, Named, SuitParams, left_by, left_by_call, left_if, of_many, serve_for}
+use Rattle.sk_isa.specs.Soundness.{AreSlots, IsSound, Named, SuitParams, left_by, left_by_call, left_if, serve_for}
 use Rattle.sk_isa.proofs.Callees.{functions_have_values, function_of-code, there}
 use Rattle.sk_isa.proofs.TypedLists.{typed-length, typed-reverse, typed-take, typed_arguments}
 use Rattle.sk_vm.specs.declared.stack.Stand.{Stand}
-use Rattle.sk_vm.specs.Rooms.{Begins, depth_at, depth_below, given_to, slots_at, slots_below}
+use Rattle.sk_vm.specs.Rooms.{Begins, depth_below, given_to, slots_at, slots_below}
 use Rattle.sk_vm.specs.Points.{values_in, point_at}
 use Rattle.sk_vm.proofs.Starts.{signature_at-is, slots_at-is}
-use Rattle.sk_vm.proofs.Values.{length-values_in}
 
 -- a call finds its function and its arguments, and leaves one value in their place
 pub record FindsCall (signatures : List Signature) (function callee : ℕ) (left : List Ty) (values : List ℤ) : Type 0 where

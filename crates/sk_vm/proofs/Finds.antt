@@ -1,8 +1,7 @@
 -- An instruction of sound code finds what it needs.
-use Rattle.std.proofs.Common.{◌≡◌, ℕ, zero, suc, ◌<◌, ◌≤◌, ◌+◌, ◌-◌, Bool, true, false, ◌&&◌, ◌||◌, not, if◌then◌else◌, List, [], ◌∷◌, length, take, drop, map, reverse, All, Contains, ℤ, pos, Option, Some, None, IsSomeAnd, slice_get, slice_index_or, refl, sym, ap, subst, ◌∙◌, arith, nat_le}
+use Rattle.std.proofs.Common.{◌≡◌, ℕ, zero, suc, ◌<◌, ◌≤◌, ◌-◌, Bool, true, false, ◌&&◌, ◌||◌, if◌then◌else◌, List, [], ◌∷◌, length, take, drop, map, reverse, Contains, ℤ, pos, Option, Some, None, slice_get, slice_index_or, refl, ap, subst, ◌∙◌, arith, nat_le}
 use Rattle.std.proofs.lemmas.List.{length-map}
 use Rattle.std.specs.Cmp.{first_so, second_so}
-use Rattle.std.specs.Cmp.Lexicographic.{pointwise}
 use Rattle.std.specs.List.{list_all}
 use Rattle.std.proofs.lemmas.Option.{slice_get_within}
 use Rattle.sk_base.specs.declared.number.Op.{Op}
@@ -13,8 +12,7 @@ use Rattle.sk_tree.specs.TypingNames.{is_field}
 use Rattle.sk_tree.specs.declared.tree.ParamKind.{ParamKind}
 use Rattle.sk_tree.specs.declared.tree.ParamKind.TheVariants.{Scalar, Index, Proxy, Region as RegionKind}
 use Rattle.sk_isa.specs.declared.code.Instr.{Instr}
-use Rattle.sk_isa.specs.declared.code.Instr.TheVariants.{Push, Pop, Load, Store, Field, Size, Item, Region, Neg, Inv, Not, Wrap, Binary, Jump, Zero, Turn, Call, Ret, Count, Make, Take, Drop, Set, Do, Get, Poke, Print, Text, Endl, Halt}
-use Rattle.sk_isa.specs.declared.object.Signature.{Signature}
+use Rattle.sk_isa.specs.declared.code.Instr.TheVariants.{Push, Pop, Load, Store, Field, Item, Region, Neg, Inv, Not, Wrap, Binary, Jump, Zero, Turn, Call, Ret}
 use Rattle.sk_isa.specs.Kernels.{AreOfTypes}
 use Rattle.sk_isa.specs.Soundness.{Left, Named, has_field, is_number, is_scalar, item_type, leads_to, left_by, left_if, left_with, number_type, of_many, of_one, of_two, region_type, scalar_in, serves, left_by_ret}
 use Rattle.sk_isa.proofs.Steps.{left_if_so, left_with_so, scalar_so, item_so, region_so}

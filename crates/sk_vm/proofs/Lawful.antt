@@ -3,7 +3,6 @@ use Rattle.std.proofs.Common.{◌≡◌, ℕ, zero, suc, ◌+◌, ◌<◌, ◌�
 use Rattle.std.specs.List.{list_all}
 use Rattle.std.specs.Cmp.{first_so, second_so}
 use Rattle.std.proofs.lemmas.Bool.{and_from, lt-ltb}
-use Rattle.std.proofs.lemmas.Bool.Decides.{nat_tests}
 use Rattle.std.proofs.lemmas.Option.{get_or_from_slice_get, slice_get_within}
 use Rattle.sk_base.specs.declared.number.Ty.{Ty}
 use Rattle.sk_base.specs.declared.number.Ty.TheVariants.{Int, Long}
@@ -24,7 +23,7 @@ use Rattle.sk_isa.specs.Soundness.{IsSafe, IsSound, IsSoundPlan, SuitParams, Tak
 use Rattle.sk_isa.proofs.TypedLists.{typed_at}
 use Rattle.sk_vm.specs.Instantiated.{IsLawful, RunsOperator}
 use Rattle.sk_vm.specs.Frames.{Framed}
-use Rattle.sk_vm.proofs.Arguments.{element_kind, uniform_type, holds_of}
+use Rattle.sk_vm.proofs.Arguments.{element_kind, holds_of, later, none_plus, one_more, plus_none, same_test, uniform_type}
 use Rattle.sk_vm.proofs.Given.{scalars_only}
 
 -- arguments that are each of their parameter's type
@@ -35,41 +34,20 @@ suits_defined : (given : Given) (pairs : Bool) (place pair elements operand unif
 suits_defined given pairs place pair zero operand uniform [] scalars cells uniforms = tt
 suits_defined given pairs place pair (suc elements) operand uniform [] scalars cells uniforms = tt
 suits_defined given pairs place pair zero operand uniform (Scalar ty ∷ kinds) scalars cells uniforms = (
-  subst (λ (n : ℕ). InRange ty (slice_index_or given.uniforms n (pos 0))) (plus_none uniform) (uniforms 0 ty refl),
+  subst (λ (n : ℕ). InRange ty (slice_index_or given.uniforms n (pos 0))) (sym (plus_none uniform)) (uniforms 0 ty refl),
   suits_defined given pairs place pair zero operand (suc uniform) kinds scalars (λ k own is less. absurd (omega arith))
-      (λ k own is. subst (λ (n : ℕ). InRange own (slice_index_or given.uniforms n (pos 0))) (later uniform k)
+      (λ k own is. subst (λ (n : ℕ). InRange own (slice_index_or given.uniforms n (pos 0))) (sym (later uniform k))
       (uniforms (suc k) own (ap (λ (n : ℕ). slice_get (Scalar ty ∷ kinds) n) (none_plus k) ∙ is))),
 )
-  where
-    plus_none : (n : ℕ) → n + 0 ≡ n
-    plus_none n = omega arith
-
-    later : (n k : ℕ) → n + suc k ≡ suc n + k
-    later n k = omega arith
-
-    none_plus : (k : ℕ) → 0 + suc k ≡ suc (0 + k)
-    none_plus k = omega arith
 suits_defined given pairs place pair (suc elements) operand uniform (Scalar ty ∷ kinds) scalars cells uniforms = (
-  subst (λ (n : ℕ). InRange ty (given.cells n (element_place pairs n place pair))) (plus_none operand) (cells 0 ty refl (omega arith)),
+  subst (λ (n : ℕ). InRange ty (given.cells n (element_place pairs n place pair))) (sym (plus_none operand)) (cells 0 ty refl (omega arith)),
   suits_defined given pairs place pair elements (suc operand) uniform kinds scalars
-      (λ k own is less. subst (λ (n : ℕ). InRange own (given.cells n (element_place pairs n place pair))) (later operand k) (cells (suc k) own is (omega arith)))
+      (λ k own is less. subst (λ (n : ℕ). InRange own (given.cells n (element_place pairs n place pair))) (sym (later operand k)) (cells (suc k) own is (omega arith)))
       (λ k own is. uniforms k own (ap (λ (n : ℕ). slice_get (Scalar ty ∷ kinds) n) (one_more elements k) ∙ is)),
 )
-  where
-    plus_none : (n : ℕ) → n + 0 ≡ n
-    plus_none n = omega arith
-
-    later : (n k : ℕ) → n + suc k ≡ suc n + k
-    later n k = omega arith
-
-    one_more : (n k : ℕ) → suc n + k ≡ suc (n + k)
-    one_more n k = omega arith
 suits_defined given pairs place pair elements operand uniform (Index dimension ∷ kinds) scalars cells uniforms = cc
 suits_defined given pairs place pair elements operand uniform (Proxy dimension own ∷ kinds) scalars cells uniforms = cc
 suits_defined given pairs place pair elements operand uniform (Region dimension own ∷ kinds) scalars cells uniforms = cc
-
-same_test : (n : ℕ) → (n == n) ≡ true
-same_test n = grind (arith, nat_tests)
 
 -- the number that is there
 number_there : (ty : Ty) (numbers : List ℤ) (k : ℕ) → IsSomeAnd (slice_get numbers k) (InRange ty) → InRange ty (slice_index_or numbers k (pos 0))
@@ -137,8 +115,8 @@ operands_suit object plan fits place is a b in_a in_b =
 pub lawful : (object : Object) → IsSound object → TakesScalars object → (plan : Plan) → IsSoundPlan object plan → IsLawful (instance_meaning object plan)
 lawful object sound scalars plan fits = record { never_traps = never; never_traps_joining = joining }
   where
-    none_plus : (k : ℕ) → k ≡ 0 + k
-    none_plus k = omega arith
+    zero_plus : (k : ℕ) → k ≡ 0 + k
+    zero_plus k = omega arith
 
     never : NeverTraps (instance_meaning object plan)
     never all given place pair suits =
@@ -151,12 +129,12 @@ lawful object sound scalars plan fits = record { never_traps = never; never_trap
         (sound.marks function (marked_at object plan.functions 0 all some)).has_value
         (arguments_from given reading.pairs place pair reading.elements 0 0 params)
         (suits_defined given reading.pairs place pair reading.elements 0 0 params only
-        (λ k ty is less. subst (λ (n : ℕ). InRange ty (given.cells n (element_place reading.pairs n place pair))) (none_plus k)
+        (λ k ty is less. subst (λ (n : ℕ). InRange ty (given.cells n (element_place reading.pairs n place pair))) (zero_plus k)
         (subst (λ (t : Ty). InRange t (given.cells k (element_place reading.pairs k place pair)))
         (ap (λ (o : Option ParamKind). elim o [ Some kind ↦ kind_type kind | None ↦ Int ]) (element_kind reading.elements params k ty only is less))
         (suits.held k (element_place reading.pairs k place pair)
         (and_from (nat_lt k reading.elements) _ (lt-ltb k reading.elements less) (same_test (element_place reading.pairs k place pair))))))
-        (λ k ty is. subst (λ (n : ℕ). InRange ty (slice_index_or given.uniforms n (pos 0))) (none_plus k)
+        (λ k ty is. subst (λ (n : ℕ). InRange ty (slice_index_or given.uniforms n (pos 0))) (zero_plus k)
         (number_there ty given.uniforms k (typed_at (uniform_types reading.elements params) given.uniforms k ty suits.uniforms
         (uniform_type reading.elements params k ty only is)))))
 

@@ -1,29 +1,26 @@
 -- What the types say in the middle of a run.
-use Rattle.std.proofs.Common.{◌≡◌, ℕ, zero, suc, ◌+◌, ◌-◌, ◌<◌, ◌≤◌, true, false, Bool, ◌&&◌, List, [], ◌∷◌, length, take, drop, map, reverse, All, Contains, ℤ, Option, Some, None, Result, IsSomeAnd, slice_get, slice_index_or, refl, sym, ap, subst, ◌∙◌, arith}
+use Rattle.std.proofs.Common.{◌≡◌, ℕ, suc, ◌+◌, ◌<◌, ◌≤◌, true, false, Bool, ◌&&◌, List, [], ◌∷◌, length, take, drop, map, reverse, Contains, ℤ, Option, Some, None, IsSomeAnd, slice_get, refl, sym, ap, subst, ◌∙◌, arith}
 use Rattle.std.specs.List.{list_all}
 use Rattle.std.specs.Cmp.{first_so, second_so}
 use Rattle.std.specs.Cmp.Lexicographic.{pointwise}
 use Rattle.std.proofs.lemmas.Option.{get_or_from_slice_get, same_Some, slice_get_within}
-use Rattle.sk_base.specs.declared.number.Trap.{Trap}
 use Rattle.sk_base.specs.declared.number.Ty.{Ty}
-use Rattle.sk_tree.specs.Evaluation.{Argument, Value}
+use Rattle.sk_tree.specs.Evaluation.{Value}
 use Rattle.sk_tree.specs.declared.tree.ParamKind.{ParamKind}
-use Rattle.sk_tree.specs.declared.tree.ParamKind.TheVariants.{Scalar, Index, Proxy, Region}
 use Rattle.sk_isa.specs.declared.code.Code.{Code}
 use Rattle.sk_isa.specs.declared.code.Instr.{Instr}
 use Rattle.sk_isa.specs.declared.code.Instr.TheVariants.{Call}
 use Rattle.sk_isa.specs.declared.object.Object.{Object}
 use Rattle.sk_isa.specs.declared.object.Signature.{Signature}
-use Rattle.sk_isa.specs.Coded.{function_of, next_of, returning}
+use Rattle.sk_isa.specs.Coded.{Next, function_of, next_of, returning}
 use Rattle.sk_isa.specs.Instances.{signature_at}
-use Rattle.sk_isa.specs.Kernels.{AreOfTypes}
 use Rattle.sk_isa.specs.Soundness.{AreSlots, IsFineAt, IsSound, Named, SuitParams, TakesScalars, Types, is_scalar, leads_to, left_by, serves}
 use Rattle.sk_isa.proofs.TypedLists.{typed-length}
 use Rattle.sk_vm.specs.declared.stack.Stand.{Stand}
 use Rattle.sk_vm.specs.Needs.{Needs}
-use Rattle.sk_vm.specs.Points.{values_in, point_at, led_to}
+use Rattle.sk_vm.specs.Points.{values_in, point_at}
 use Rattle.sk_vm.specs.Rooms.{depth_at, depth_below, slots_below}
-use Rattle.sk_vm.proofs.Calls.{FindsCall, call_found, calls-next, passed, depth_below-le, slots_below-le}
+use Rattle.sk_vm.proofs.Calls.{call_found, calls-next, passed, depth_below-le, slots_below-le}
 use Rattle.sk_vm.proofs.Finds.{needs_met}
 use Rattle.sk_vm.proofs.Running.{Running, routine_at}
 use Rattle.sk_vm.proofs.Starts.{signature_at-is}
@@ -163,12 +160,12 @@ module _ (object : Object) (function : ℕ) (begun : List ℤ) (turns : ℕ) (in
 
   -- where a call leads, by what it gave
   pub call_leads : IsSound object → (callee rest : ℕ) → CallReady callee rest → function < length object.functions → (instr : Instr) → instr ≡ Call callee
-      → (stack_then slots_then after : List ℤ) → stack_then ≡ stack → slots_then ≡ slots → (result : Result Stand Trap)
-      → led_to result after slots_then
+      → (stack_then slots_then : List ℤ) → stack_then ≡ stack → slots_then ≡ slots → (next : Next)
+      → next
       ≡ returning (point_at stand stack_then slots_then) (drop (length (signature_at object callee).params) (values_in stack_then stand.top))
       (function_of object callee (map Value (passed object callee stack_then stand.top)) stand.turns)
-      → next_of (routine_at object function running.code begun) instr (point_at stand stack slots) ≡ led_to result after slots_then
-  call_leads sound callee rest ready upto instr is stack_then slots_then after same_stack same_slots result led =
+      → next_of (routine_at object function running.code begun) instr (point_at stand stack slots) ≡ next
+  call_leads sound callee rest ready upto instr is stack_then slots_then same_stack same_slots next led =
       let size = length-values_in stack stand.top in
       let takes = ready.takes in
       ap (λ (i : Instr). next_of (routine_at object function running.code begun) i (point_at stand stack slots)) is

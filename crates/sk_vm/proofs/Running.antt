@@ -1,8 +1,5 @@
 -- Where the run of a function stands in the middle.
-use Rattle.std.proofs.Common.{◌≡◌, ℕ, zero, suc, ◌+◌, ◌-◌, ◌*◌, ◌^◌, ◌<◌, ◌≤◌, true, List, [], ◌∷◌, ◌++◌, length, take, drop, map, replicate, All, Contains, ℤ, pos, Option, Some, None, Result, Ok, Err, IsSomeAnd, slice_get, refl, sym, ap, subst, ◌∙◌, arith}
-use Rattle.std.specs.List.{list_all}
-use Rattle.std.proofs.lemmas.Option.{same_Some, slice_get_within}
-use Rattle.std.specs.Cmp.Lexicographic.{pointwise}
+use Rattle.std.proofs.Common.{◌≡◌, ℕ, suc, ◌+◌, ◌*◌, ◌^◌, ◌<◌, List, length, map, ℤ, Option, Some, Result, IsSomeAnd, slice_get, sym, ap, subst, ◌∙◌}
 use Rattle.sk_base.specs.declared.number.Trap.{Trap}
 use Rattle.sk_base.specs.declared.number.Ty.{Ty}
 use Rattle.sk_tree.specs.Evaluation.{Argument, Value}
@@ -10,14 +7,14 @@ use Rattle.sk_isa.specs.declared.code.Code.{Code}
 use Rattle.sk_isa.specs.declared.code.Instr.{Instr}
 use Rattle.sk_isa.specs.declared.object.Object.{Object}
 use Rattle.sk_isa.specs.declared.object.Signature.{Signature}
-use Rattle.sk_isa.specs.Coded.{Point, Routine, Next, Goes, Ends, Outcome, Ended, Lost, followed, next_of, outcome_of, routine_of, start_of, callees_below, function_of}
+use Rattle.sk_isa.specs.Coded.{Point, Routine, Next, Goes, Ends, Ended, followed, next_of, outcome_of, routine_of, callees_below, function_of}
 use Rattle.sk_isa.specs.Ranks.{rank}
-use Rattle.sk_isa.specs.Soundness.{IsSound, IsSoundCode, SuitParams, LoopsTakeTurns, leads_to, serves}
-use Rattle.sk_isa.specs.Steps.{IsFineNext, IsFinePoint, IsFineStep, TakesTurns}
+use Rattle.sk_isa.specs.Soundness.{IsSoundCode, SuitParams}
+use Rattle.sk_isa.specs.Steps.{IsFineNext, IsFinePoint, IsFineStep}
 use Rattle.sk_isa.proofs.Runs.{measure_falls, outcome-next}
 use Rattle.sk_vm.specs.declared.stack.Stand.{Stand}
 use Rattle.sk_vm.specs.Points.{point_at}
-use Rattle.sk_vm.specs.Rooms.{given_to, instrs_at}
+use Rattle.sk_vm.specs.Rooms.{given_to}
 
 -- the arguments with which a function was begun
 abbrev pub arguments_of : Object → (function : ℕ) → (begun : List ℤ) → List Argument

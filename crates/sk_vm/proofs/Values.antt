@@ -1,12 +1,12 @@
 -- Values that lie in a buffer.
-use Rattle.std.proofs.Common.{◌≡◌, ◌≢◌, ℕ, zero, suc, ◌<◌, ◌≤◌, ◌-◌, List, [], ◌∷◌, length, ℤ, pos, slice_set, slice_index_or, refl, sym, ap, ◌∙◌, arith}
+use Rattle.std.proofs.Common.{◌≡◌, ◌≢◌, ℕ, zero, suc, ◌<◌, ◌≤◌, ◌-◌, List, ◌∷◌, length, ℤ, pos, slice_set, slice_index_or, refl, sym, ap, ◌∙◌, arith}
 use Rattle.std.proofs.lemmas.List.{get_or-set_same, get_or-set_other}
 use Rattle.sk_base.specs.declared.number.Op.{Op}
 use Rattle.sk_base.specs.declared.number.Ty.{Ty}
 use Rattle.sk_base.specs.declared.number.Trap.{Trap}
 use Rattle.sk_base.specs.Arithmetic.{op_of}
-use Rattle.std.specs.Prelude.{Result, Ok, Err}
-use Rattle.sk_isa.specs.Coded.{Point, Routine, Next, Goes, Ends, Stuck, next_of, going, giving, with_one, with_two}
+use Rattle.std.specs.Prelude.{Ok, Err}
+use Rattle.sk_isa.specs.Coded.{Routine, Next, Goes, Ends, next_of, going, giving, with_two}
 use Rattle.sk_isa.specs.declared.code.Instr.TheVariants.{Binary}
 use Rattle.sk_vm.specs.declared.stack.Stand.{Stand}
 use Rattle.sk_vm.specs.Points.{values_in, point_at}

@@ -1,8 +1,8 @@
 -- What an instruction needs of the buffers in which a stack and slots lie.
-use Rattle.std.specs.Prelude.{◌≡◌, ℕ, ◌-◌, ◌<◌, ◌≤◌, false, List, length, ℤ, pos, slice_index_or}
+use Rattle.std.specs.Prelude.{◌≡◌, ℕ, ◌-◌, ◌<◌, false, List, length, ℤ, pos, slice_index_or}
 use Rattle.sk_base.specs.Arithmetic.{InRange, is_shift}
 use Rattle.sk_isa.specs.declared.code.Instr.{Instr}
-use Rattle.sk_isa.specs.declared.code.Instr.TheVariants.{Push, Pop, Load, Store, Field, Size, Item, Region, Neg, Inv, Not, Wrap, Binary, Jump, Zero, Turn, Call, Ret, Count, Make, Take, Drop, Set, Do, Get, Poke, Print, Text, Endl, Halt}
+use Rattle.sk_isa.specs.declared.code.Instr.TheVariants.{Push, Pop, Load, Store, Neg, Inv, Not, Wrap, Binary, Jump, Zero, Turn, Call, Ret}
 
 -- An instruction finds its values and its slot there, room for what it pushes, and the operands of its type.
 abbrev pub Needs : Instr → (top : ℕ) → (stack slots : List ℤ) → Type 0

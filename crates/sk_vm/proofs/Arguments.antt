@@ -1,8 +1,6 @@
 -- The arguments that a function reads from data that suits it.
-use Rattle.std.proofs.Common.{◌≡◌, ◌⊎◌, inl, inr, ℕ, zero, suc, ◌+◌, ◌-◌, ◌<◌, ◌≤◌, Bool, true, false, ◌&&◌, ◌==◌, nat_lt, List, [], ◌∷◌, length, map, ℤ, pos, Option, Some, None, IsSome, IsSomeAnd, slice_get, slice_index_or, refl, sym, ap, subst, ◌∙◌, arith}
-use Rattle.std.specs.Prelude.{if◌then◌else◌, is_some}
+use Rattle.std.proofs.Common.{◌≡◌, ◌⊎◌, inl, inr, ℕ, zero, suc, ◌+◌, ◌-◌, ◌<◌, ◌≤◌, Bool, true, ◌&&◌, ◌==◌, nat_lt, List, [], ◌∷◌, length, map, ℤ, pos, Option, Some, None, IsSome, IsSomeAnd, slice_get, slice_index_or, refl, sym, ap, subst, ◌∙◌, arith}
 use Rattle.std.specs.List.{list_all}
-use Rattle.std.specs.Cmp.{first_so, second_so}
 use Rattle.std.proofs.lemmas.Bool.{and_from, cond-true, cond-false, lt-ltb, le-ltb}
 use Rattle.std.proofs.lemmas.Bool.Decides.{nat_tests}
 use Rattle.std.proofs.lemmas.Option.{get_or_from_slice_get, slice_get_within}
@@ -12,10 +10,10 @@ use Rattle.sk_base.specs.Arithmetic.{InRange}
 use Rattle.sk_tree.specs.Evaluation.{Argument, Value, kind_type}
 use Rattle.sk_tree.specs.declared.tree.ParamKind.{ParamKind}
 use Rattle.sk_tree.specs.declared.tree.ParamKind.TheVariants.{Scalar, Index, Proxy, Region}
-use Rattle.sk_isa.specs.Instances.{Reading, arguments_from, element_kinds, element_place, uniform_types}
+use Rattle.sk_isa.specs.Instances.{arguments_from, element_kinds, element_place, uniform_types}
 use Rattle.sk_isa.specs.Kernels.{AreOfTypes, Given, Source, given_by, operand_type}
 use Rattle.sk_isa.specs.Soundness.{SuitParams, is_scalar}
-use Rattle.sk_isa.proofs.TypedLists.{typed-length, typed_at}
+use Rattle.sk_isa.proofs.TypedLists.{typed_at}
 use Rattle.sk_vm.specs.Arguments.{argument_at, CanPass, Passes}
 
 -- the kinds of elements and the types of uniform arguments, by the parameter

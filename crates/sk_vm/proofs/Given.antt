@@ -1,12 +1,10 @@
 -- The value of a function that was begun with arguments from data.
-use Rattle.std.proofs.Common.{◌≡◌, ℕ, suc, ◌-◌, ◌<◌, ◌≤◌, true, List, ◌++◌, length, take, drop, map, replicate, ℤ, pos, Some, Result, Ok, Err, IfOk, slice_get, sym, ap, subst, ◌∙◌, arith}
+use Rattle.std.proofs.Common.{◌≡◌, ℕ, suc, ◌-◌, ◌<◌, ◌≤◌, true, List, length, drop, map, replicate, ℤ, pos, Result, Ok, sym, ap, subst, arith}
 use Rattle.std.specs.List.{list_all}
 use Rattle.std.proofs.lemmas.List.{length-take-le}
 use Rattle.sk_base.specs.declared.number.Trap.{Trap}
-use Rattle.sk_base.specs.declared.number.Ty.{Ty}
 use Rattle.sk_base.specs.Arithmetic.{InRange}
 use Rattle.sk_tree.specs.Evaluation.{Argument, Value, turn_limit, value_only}
-use Rattle.sk_isa.specs.declared.code.Code.{Code}
 use Rattle.sk_isa.specs.declared.object.Object.{Object}
 use Rattle.sk_isa.specs.declared.object.Signature.{Signature}
 use Rattle.sk_isa.specs.Coded.{function_of}

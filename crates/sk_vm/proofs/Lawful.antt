@@ -1,5 +1,5 @@
 -- Marked functions never trap.
-use Rattle.std.proofs.Common.{◌≡◌, ℕ, zero, suc, ◌+◌, ◌<◌, ◌≤◌, Bool, true, false, ◌&&◌, ◌==◌, nat_lt, List, [], ◌∷◌, length, map, All, ℤ, pos, Option, Some, None, Result, Ok, Err, IsSomeAnd, IsOk, slice_get, slice_index_or, refl, sym, ap, subst, ◌∙◌, arith}
+use Rattle.std.proofs.Common.{◌≡◌, ℕ, zero, suc, ◌+◌, ◌<◌, Bool, true, nat_lt, List, [], ◌∷◌, length, ℤ, pos, Option, Some, None, Ok, IsSomeAnd, IsOk, slice_get, slice_index_or, refl, sym, ap, subst, ◌∙◌, arith}
 use Rattle.std.specs.List.{list_all}
 use Rattle.std.specs.Cmp.{first_so, second_so}
 use Rattle.std.proofs.lemmas.Bool.{and_from, lt-ltb}
@@ -7,7 +7,7 @@ use Rattle.std.proofs.lemmas.Option.{get_or_from_slice_get, slice_get_within}
 use Rattle.sk_base.specs.declared.number.Ty.{Ty}
 use Rattle.sk_base.specs.declared.number.Ty.TheVariants.{Int, Long}
 use Rattle.sk_base.specs.Arithmetic.{InRange}
-use Rattle.sk_tree.specs.Evaluation.{Argument, Value, kind_type}
+use Rattle.sk_tree.specs.Evaluation.{Value, kind_type}
 use Rattle.sk_tree.specs.declared.tree.ParamKind.{ParamKind}
 use Rattle.sk_tree.specs.declared.tree.ParamKind.TheVariants.{Scalar, Index, Proxy, Region}
 use Rattle.sk_tree.specs.declared.tree.Skeleton.{Skeleton}
@@ -16,14 +16,13 @@ use Rattle.sk_tree.specs.TypingInstances.{function_count, is_operator}
 use Rattle.sk_tree.specs.TypingNames.{same_type}
 use Rattle.sk_isa.specs.declared.object.Object.{Object}
 use Rattle.sk_isa.specs.declared.object.Plan.{Plan}
-use Rattle.sk_isa.specs.declared.object.Signature.{Signature}
-use Rattle.sk_isa.specs.Instances.{arguments_from, element_kinds, element_place, function_at, instance_meaning, invoked, is_marked, operator_place, operator_type, reading_of, signature_at, uniform_types}
-use Rattle.sk_isa.specs.Kernels.{AreJoined, AreOfTypes, Given, NeverTraps, NeverTrapsJoining, Suits, holding_all, operand_type}
-use Rattle.sk_isa.specs.Soundness.{IsSafe, IsSound, IsSoundPlan, SuitParams, TakesScalars, is_scalar}
+use Rattle.sk_isa.specs.Instances.{arguments_from, element_place, function_at, instance_meaning, invoked, is_marked, operator_place, operator_type, reading_of, signature_at, uniform_types}
+use Rattle.sk_isa.specs.Kernels.{Given, NeverTraps, NeverTrapsJoining}
+use Rattle.sk_isa.specs.Soundness.{IsSound, IsSoundPlan, SuitParams, TakesScalars, is_scalar}
 use Rattle.sk_isa.proofs.TypedLists.{typed_at}
 use Rattle.sk_vm.specs.Instantiated.{IsLawful, RunsOperator}
 use Rattle.sk_vm.specs.Frames.{Framed}
-use Rattle.sk_vm.proofs.Arguments.{element_kind, holds_of, later, none_plus, one_more, plus_none, same_test, uniform_type}
+use Rattle.sk_vm.proofs.Arguments.{element_kind, later, none_plus, one_more, plus_none, same_test, uniform_type}
 use Rattle.sk_vm.proofs.Given.{scalars_only}
 
 -- arguments that are each of their parameter's type

@@ -1,6 +1,6 @@
 -- Instances as kernels.
 use Rattle.std.specs.Prelude.{◌≡◌, ℕ, Some, None, Option, slice_get}
-use Rattle.sk_isa.specs.Instances.{Reading, function_at, instance_meaning, operator_place, reading_of}
+use Rattle.sk_isa.specs.Instances.{function_at, instance_meaning, operator_place, reading_of}
 use Rattle.sk_isa.specs.Kernels.{Meaning, NeverTraps, NeverTrapsJoining}
 use Rattle.sk_isa.specs.Soundness.{IsSound, IsSoundPlan, TakesScalars}
 use Rattle.sk_isa.specs.declared.object.Object.{Object}

@@ -1,8 +1,7 @@
-use Rattle.std.proofs.Common.{rules, ◌≡◌, ℕ, ℤ, ◌<◌, ◌≤◌, ◌+◌, ◌-◌, ◌*◌, ◌^◌, List, ◌++◌, length, take, drop, map, reverse, Some, Ok, Result, slice_set, sym, ap, subst, ◌∙◌, arith, FitsSigned, w64, length-take-le}
+use Rattle.std.proofs.Common.{rules, ◌≡◌, ℕ, ℤ, ◌<◌, ◌≤◌, ◌+◌, ◌-◌, ◌*◌, List, ◌++◌, length, take, drop, map, reverse, Some, Ok, Result, slice_set, sym, ap, subst, ◌∙◌, arith, FitsSigned, w64, length-take-le}
 use Rattle.sk_tree.specs.Evaluation.{Value}
 use Rattle.sk_isa.specs.Instances.{signature_at}
 use Rattle.sk_isa.specs.Soundness.{SuitParams}
-use Rattle.sk_isa.specs.Ranks.{rank}
 use Rattle.sk_vm.specs.Rooms.{Begins, given_to}
 use Rattle.sk_vm.specs.Points.{values_in, point_at}
 use Rattle.std.proofs.lemmas.Int.{to_z-of_z}
@@ -10,7 +9,7 @@ use Rattle.sk_base.specs.declared.number.Trap.{Trap}
 use Rattle.sk_isa.specs.Coded.{Next, next_of, function_of, returning, Goes as Going}
 use Rattle.sk_vm.proofs.Calls.{params_fit, passed, call_begins, call_returns}
 use Rattle.sk_vm.proofs.Middle.{CallReady, within, inside, needs, call_ready, call_leads}
-use Rattle.sk_vm.proofs.Running.{Running, routine_at, goes_on, ends_with}
+use Rattle.sk_vm.proofs.Running.{routine_at, goes_on, ends_with}
 use Rattle.sk_vm.proofs.Starts.{starts}
 use Rattle.sk_vm.proofs.run.+run.Goals as goal
 use Rattle.sk_vm.proofs.run.+run.Goals.{run_code-In-Calls, called-After-enter}

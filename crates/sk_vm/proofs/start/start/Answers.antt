@@ -1,4 +1,4 @@
-use Rattle.std.proofs.Common.{rules, ◌≡◌, ◌∙◌, ◌-◌, length, take, drop, replicate, pos, ℕ, ℤ, Ok, ap, sym, subst, arith, FitsSigned, w64}
+use Rattle.std.proofs.Common.{rules, ◌≡◌, ◌∙◌, ◌-◌, ◌≤◌, length, take, drop, replicate, pos, ℕ, ℤ, Ok, ap, sym, subst, arith, FitsSigned, w64}
 use Rattle.std.proofs.lemmas.Int.{to_z-of_z}
 use Rattle.sk_base.specs.Arithmetic.{InRange}
 use Rattle.sk_isa.specs.Instances.{signature_at}
@@ -6,7 +6,10 @@ use Rattle.sk_tree.specs.Evaluation.{value_only}
 use Rattle.sk_vm.specs.Arguments.{CanPass, Passes}
 use Rattle.sk_vm.proofs.Calls.{params_fit}
 use Rattle.sk_vm.proofs.Given.{scalars_only, value-in_range, passable, given_suit, begins_given, value_given}
+use Rattle.sk_vm.specs.Rooms.{given_to}
+use Rattle.sk_vm.proofs.start.start.Given.{Over}
 use Rattle.sk_vm.proofs.start.start.Goals as goal
+use Rattle.sk_vm.proofs.start.start.Goals.{After-read}
 
 pub read-requires-clause-within : goal.read-requires-clause-within
 read-requires-clause-within g c =
@@ -28,62 +31,54 @@ read-requires-clause-there g c =
     (passable c.args.object.now c.requires.sound c.requires.scalars c.args.function c.requires.there
     (record { elements = c.args.reading.elements; pairs = c.args.reading.pairs }) (g.D.Data.means c.args.source.now) c.args.at.place c.args.at.pair c.requires.suits)
 
-pub run_code-requires-clause-begins : goal.run_code-requires-clause-begins
-run_code-requires-clause-begins g c =
+-- the slots begin with the arguments
+fit : (g : Over) (c : After-read g) → length (signature_at c.args.object.now c.args.function).params ≤ length c.read.new.slots
+fit g c =
     let fit = params_fit c.args.object.now c.requires.sound c.args.function c.requires.there in
     let slots = c.slot_count.ensures in
     let size = c.split_at_mut-own.ensures.front_len in
     let kept = c.read.auto.slots in
+    omega arith
+
+passes : (g : Over) (c : After-read g)
+    → Passes (g.D.Data.means c.args.source.now) c.args.reading.elements c.args.reading.pairs c.args.at.place c.args.at.pair (given_to c.args.object.now c.args.function c.read.new.slots)
+passes g c =
+    subst (λ (n : ℕ). Passes (g.D.Data.means c.args.source.now) c.args.reading.elements c.args.reading.pairs c.args.at.place c.args.at.pair (take n c.read.new.slots))
+    c.param_count.ensures c.read.ensures.arguments
+
+pub run_code-requires-clause-begins : goal.run_code-requires-clause-begins
+run_code-requires-clause-begins g c =
+    let at = (goal.at.run_code-requires-clause-begins g c).After-read in
     begins_given c.args.object.now c.requires.sound c.requires.scalars c.args.function c.requires.there
     (record { elements = c.args.reading.elements; pairs = c.args.reading.pairs }) (g.D.Data.means c.args.source.now) c.args.at.place c.args.at.pair c.requires.suits
-    c.read.new.slots (omega arith)
-    (subst (λ (n : ℕ). Passes (g.D.Data.means c.args.source.now) c.args.reading.elements c.args.reading.pairs c.args.at.place c.args.at.pair (take n c.read.new.slots))
-    c.param_count.ensures c.read.ensures.arguments)
-    (kept ∙ size ∙ slots)
+    c.read.new.slots (fit g at) (passes g at) (c.read.auto.slots ∙ c.split_at_mut-own.ensures.front_len ∙ c.slot_count.ensures)
     (subst (λ (n : ℕ). drop n c.read.new.slots ≡ replicate (length c.read.new.slots - n) (pos 0)) c.param_count.ensures
-    (c.read.ensures.others ∙ ap (λ (n : ℕ). replicate (n - c.param_count.result) (pos 0)) (sym kept)))
+    (c.read.ensures.others ∙ ap (λ (n : ℕ). replicate (n - c.param_count.result) (pos 0)) (sym c.read.auto.slots)))
 
 pub returns-in-Ok-clause-value : goal.returns-in-Ok-clause-value
 returns-in-Ok-clause-value g c cells agree =
-    let fit = params_fit c.args.object.now c.requires.sound c.args.function c.requires.there in
-    let slots = c.slot_count.ensures in
-    let size = c.split_at_mut-own.ensures.front_len in
-    let kept = c.read.auto.slots in
+    let at = (goal.at.returns-in-Ok-clause-value g c).After-read in
     let fits : FitsSigned w64 c.in-Ok.value = search rules in
     ap (λ (x : ℤ). Ok x) (to_z-of_z w64 c.in-Ok.value fits)
     ∙ ap value_only (sym c.in-Ok.is ∙ c.run_code.ensures)
     ∙ value_given c.args.object.now c.requires.sound c.requires.scalars c.args.function c.requires.there
     (record { elements = c.args.reading.elements; pairs = c.args.reading.pairs }) (g.D.Data.means c.args.source.now) c.args.at.place c.args.at.pair c.requires.suits
-    c.read.new.slots (omega arith)
-    (subst (λ (n : ℕ). Passes (g.D.Data.means c.args.source.now) c.args.reading.elements c.args.reading.pairs c.args.at.place c.args.at.pair (take n c.read.new.slots))
-    c.param_count.ensures c.read.ensures.arguments)
-    cells agree
+    c.read.new.slots (fit g at) (passes g at) cells agree
 
 pub returns-in-Ok-clause-range : goal.returns-in-Ok-clause-range
 returns-in-Ok-clause-range g c =
-    let fit = params_fit c.args.object.now c.requires.sound c.args.function c.requires.there in
-    let slots = c.slot_count.ensures in
-    let size = c.split_at_mut-own.ensures.front_len in
-    let kept = c.read.auto.slots in
+    let at = (goal.at.returns-in-Ok-clause-range g c).After-read in
     let fits : FitsSigned w64 c.in-Ok.value = search rules in
     let suits = given_suit c.args.object.now c.requires.sound c.requires.scalars c.args.function c.requires.there
     (record { elements = c.args.reading.elements; pairs = c.args.reading.pairs }) (g.D.Data.means c.args.source.now) c.args.at.place c.args.at.pair c.requires.suits
-    c.read.new.slots (omega arith)
-    (subst (λ (n : ℕ). Passes (g.D.Data.means c.args.source.now) c.args.reading.elements c.args.reading.pairs c.args.at.place c.args.at.pair (take n c.read.new.slots))
-    c.param_count.ensures c.read.ensures.arguments) in
+    c.read.new.slots (fit g at) (passes g at) in
     subst (λ (x : ℤ). InRange (signature_at c.args.object.now c.args.function).ret x) (sym (to_z-of_z w64 c.in-Ok.value fits))
     (value-in_range c.args.object.now c.requires.sound c.args.function c.requires.there _ suits c.in-Ok.value c.in-Ok.field-0-1 (sym c.run_code.ensures ∙ c.in-Ok.is))
 
 pub returns-in-Err-clause-value : goal.returns-in-Err-clause-value
 returns-in-Err-clause-value g c cells agree =
-    let fit = params_fit c.args.object.now c.requires.sound c.args.function c.requires.there in
-    let slots = c.slot_count.ensures in
-    let size = c.split_at_mut-own.ensures.front_len in
-    let kept = c.read.auto.slots in
+    let at = (goal.at.returns-in-Err-clause-value g c).After-read in
     ap value_only (sym c.in-Err.is ∙ c.run_code.ensures)
     ∙ value_given c.args.object.now c.requires.sound c.requires.scalars c.args.function c.requires.there
     (record { elements = c.args.reading.elements; pairs = c.args.reading.pairs }) (g.D.Data.means c.args.source.now) c.args.at.place c.args.at.pair c.requires.suits
-    c.read.new.slots (omega arith)
-    (subst (λ (n : ℕ). Passes (g.D.Data.means c.args.source.now) c.args.reading.elements c.args.reading.pairs c.args.at.place c.args.at.pair (take n c.read.new.slots))
-    c.param_count.ensures c.read.ensures.arguments)
-    cells agree
+    c.read.new.slots (fit g at) (passes g at) cells agree

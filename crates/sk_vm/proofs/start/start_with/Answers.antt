@@ -1,4 +1,4 @@
-use Rattle.std.proofs.Common.{rules, ◌≡◌, ◌∙◌, List, [], ◌∷◌, length, ℤ, map, Ok, ap, sym, subst, arith, FitsSigned, w64}
+use Rattle.std.proofs.Common.{rules, ◌≡◌, ◌∙◌, List, [], ◌∷◌, length, ℕ, ℤ, map, Ok, Result, ap, sym, subst, arith, FitsSigned, w64}
 use Rattle.std.proofs.lemmas.Int.{to_z-of_z}
 use Rattle.sk_base.specs.Arithmetic.{InRange}
 use Rattle.sk_isa.specs.Coded.{function_of}
@@ -7,7 +7,10 @@ use Rattle.sk_isa.proofs.TypedLists.{suited-length}
 use Rattle.sk_tree.specs.Evaluation.{Value, turn_limit, value_only}
 use Rattle.sk_vm.proofs.Calls.{params_fit, begins-entered}
 use Rattle.sk_vm.proofs.Given.{value-in_range}
+use Rattle.sk_vm.specs.Rooms.{Begins, given_to}
+use Rattle.sk_base.specs.declared.number.Trap.{Trap}
 use Rattle.sk_vm.proofs.start.start_with.Goals as goal
+use Rattle.sk_vm.proofs.start.start_with.Goals.{After-enter}
 
 -- the arguments as they were stored
 entered : {slots rest : List ℤ} {a b a_stored b_stored : ℤ} → slots ≡ a_stored ∷ b_stored ∷ rest → a_stored ≡ a → b_stored ≡ b → slots ≡ a ∷ b ∷ rest
@@ -21,39 +24,36 @@ enter-requires c =
     let size = c.split_at_mut-own.ensures.front_len in
     omega arith
 
-pub run_code-requires-clause-begins : goal.run_code-requires-clause-begins
-run_code-requires-clause-begins c =
+-- the slots begin with the two arguments
+begins : (c : After-enter)
+    → Begins c.args.object.now c.args.function c.enter.new.slots
+    × (given_to c.args.object.now c.args.function c.enter.new.slots ≡ c.args.a ∷ c.args.b ∷ [])
+begins c =
     let count = suited-length (signature_at c.args.object.now c.args.function).params (Value c.args.a ∷ Value c.args.b ∷ []) c.requires.suits in
-    (begins-entered c.args.object.now c.args.function (c.args.a ∷ c.args.b ∷ []) c.enter.new.slots (length c.split_at_mut-own.result.0.now)
-    (entered c.enter.ensures (to_z-of_z w64 c.args.a c.ranges.a) (to_z-of_z w64 c.args.b c.ranges.b)) (c.split_at_mut-own.ensures.front_len ∙ c.slot_count.ensures) c.enter.auto.slots (omega arith) c.requires.suits).0
+    begins-entered c.args.object.now c.args.function (c.args.a ∷ c.args.b ∷ []) c.enter.new.slots (length c.split_at_mut-own.result.0.now)
+    (entered c.enter.ensures (to_z-of_z w64 c.args.a c.ranges.a) (to_z-of_z w64 c.args.b c.ranges.b)) (c.split_at_mut-own.ensures.front_len ∙ c.slot_count.ensures) c.enter.auto.slots (omega arith) c.requires.suits
+
+-- the function's value is that for the two arguments
+gives : (c : After-enter) (value : Result (ℤ × ℕ) Trap)
+    → value ≡ function_of c.args.object.now c.args.function (map Value (given_to c.args.object.now c.args.function c.enter.new.slots)) turn_limit
+    → value ≡ function_of c.args.object.now c.args.function (Value c.args.a ∷ Value c.args.b ∷ []) turn_limit
+gives c value is = is ∙ ap (λ (xs : List ℤ). function_of c.args.object.now c.args.function (map Value xs) turn_limit) (begins c).1
+
+pub run_code-requires-clause-begins : goal.run_code-requires-clause-begins
+run_code-requires-clause-begins c = (begins (goal.at.run_code-requires-clause-begins c).After-enter).0
 
 pub returns-in-Ok-clause-value : goal.returns-in-Ok-clause-value
 returns-in-Ok-clause-value c =
-    let count = suited-length (signature_at c.args.object.now c.args.function).params (Value c.args.a ∷ Value c.args.b ∷ []) c.requires.suits in
-    let given = (begins-entered c.args.object.now c.args.function (c.args.a ∷ c.args.b ∷ []) c.enter.new.slots (length c.split_at_mut-own.result.0.now)
-    (entered c.enter.ensures (to_z-of_z w64 c.args.a c.ranges.a) (to_z-of_z w64 c.args.b c.ranges.b))
-    (c.split_at_mut-own.ensures.front_len ∙ c.slot_count.ensures) c.enter.auto.slots (omega arith) c.requires.suits).1 in
     let fits : FitsSigned w64 c.in-Ok.value = search rules in
     ap (λ (x : ℤ). Ok x) (to_z-of_z w64 c.in-Ok.value fits)
-    ∙ ap value_only (sym c.in-Ok.is ∙ c.run_code.ensures)
-    ∙ ap (λ (xs : List ℤ). value_only (function_of c.args.object.now c.args.function (map Value xs) turn_limit)) given
+    ∙ ap value_only (sym c.in-Ok.is ∙ gives (goal.at.returns-in-Ok-clause-value c).After-enter _ c.run_code.ensures)
 
 pub returns-in-Ok-clause-range : goal.returns-in-Ok-clause-range
 returns-in-Ok-clause-range c =
-    let count = suited-length (signature_at c.args.object.now c.args.function).params (Value c.args.a ∷ Value c.args.b ∷ []) c.requires.suits in
-    let given = (begins-entered c.args.object.now c.args.function (c.args.a ∷ c.args.b ∷ []) c.enter.new.slots (length c.split_at_mut-own.result.0.now)
-    (entered c.enter.ensures (to_z-of_z w64 c.args.a c.ranges.a) (to_z-of_z w64 c.args.b c.ranges.b))
-    (c.split_at_mut-own.ensures.front_len ∙ c.slot_count.ensures) c.enter.auto.slots (omega arith) c.requires.suits).1 in
     let fits : FitsSigned w64 c.in-Ok.value = search rules in
     subst (λ (x : ℤ). InRange (signature_at c.args.object.now c.args.function).ret x) (sym (to_z-of_z w64 c.in-Ok.value fits))
     (value-in_range c.args.object.now c.requires.sound c.args.function c.requires.there (Value c.args.a ∷ Value c.args.b ∷ []) c.requires.suits c.in-Ok.value c.in-Ok.field-0-1
-    (ap (λ (xs : List ℤ). function_of c.args.object.now c.args.function (map Value xs) turn_limit) (sym given) ∙ sym c.run_code.ensures ∙ c.in-Ok.is))
+    (sym (gives (goal.at.returns-in-Ok-clause-range c).After-enter _ c.run_code.ensures) ∙ c.in-Ok.is))
 
 pub returns-in-Err-clause-value : goal.returns-in-Err-clause-value
-returns-in-Err-clause-value c =
-    let count = suited-length (signature_at c.args.object.now c.args.function).params (Value c.args.a ∷ Value c.args.b ∷ []) c.requires.suits in
-    let given = (begins-entered c.args.object.now c.args.function (c.args.a ∷ c.args.b ∷ []) c.enter.new.slots (length c.split_at_mut-own.result.0.now)
-    (entered c.enter.ensures (to_z-of_z w64 c.args.a c.ranges.a) (to_z-of_z w64 c.args.b c.ranges.b))
-    (c.split_at_mut-own.ensures.front_len ∙ c.slot_count.ensures) c.enter.auto.slots (omega arith) c.requires.suits).1 in
-    ap value_only (sym c.in-Err.is ∙ c.run_code.ensures)
-    ∙ ap (λ (xs : List ℤ). value_only (function_of c.args.object.now c.args.function (map Value xs) turn_limit)) given
+returns-in-Err-clause-value c = ap value_only (sym c.in-Err.is ∙ gives (goal.at.returns-in-Err-clause-value c).After-enter _ c.run_code.ensures)

@@ -1,4 +1,4 @@
-use Rattle.std.proofs.Common.{◌≡◌, ◌∙◌, Bool, refl, sym, ap, subst}
+use Rattle.std.proofs.Common.{◌∙◌, Bool, refl, sym, ap, subst}
 use Rattle.sk_isa.specs.Instances.{Reading, reading_of}
 use Rattle.sk_isa.specs.declared.object.Object.{Object}
 use Rattle.sk_vm.specs.Frames.{Framed, HasRoom}

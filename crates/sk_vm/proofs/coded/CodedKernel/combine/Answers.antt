@@ -1,6 +1,6 @@
-use Rattle.std.proofs.Common.{◌≡◌, ◌∙◌, ◌∷◌, [], List, ℕ, ℤ, sym, ap, subst, w64, IsSomeAnd, to_z, of_z}
+use Rattle.std.proofs.Common.{◌∷◌, [], ℤ, sym, subst, w64, IsSomeAnd, to_z, of_z}
 use Rattle.std.proofs.lemmas.Int.{to_z-of_z}
-use Rattle.std.specs.Prelude.{Option, Some}
+use Rattle.std.specs.Prelude.{Option}
 use Rattle.sk_base.specs.Arithmetic.{InRange}
 use Rattle.sk_isa.specs.Instances.{operator_place, operator_type, signature_at}
 use Rattle.sk_isa.specs.Soundness.{SuitParams}

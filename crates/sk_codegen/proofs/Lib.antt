@@ -11,6 +11,7 @@ pub mod Flows
 pub mod FunctionRuns
 pub mod Loops
 pub mod MeansSource
+pub mod NameLemmas
 pub mod Returns
 pub mod Runs
 pub mod SoundBodies
@@ -26,5 +27,4 @@ pub mod SoundStatements
 pub mod SoundValues
 pub mod StatementNodes
 pub mod StatementRuns
-pub mod Tidy
 pub mod Writers

@@ -2,6 +2,5 @@ pub mod Means
 pub mod Names
 pub mod Plain
 pub mod PlainLaws
-pub mod Scopes
 pub mod SourceRuns
 pub mod Written

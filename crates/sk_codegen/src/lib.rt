@@ -1,6 +1,5 @@
 //! From a program to the machine's code.
 //!
-//! - `scopes`: names with what they stand for.
 //! - `names`: the functions that may be called, and the slots of the names in scope.
 //! - `types`: the types of operators' values.
 //! - `output`: instructions behind instructions, and jumps that are written once their targets are known.
@@ -19,7 +18,6 @@ mod names;
 mod output;
 mod plans;
 mod program;
-mod scopes;
 mod statements;
 #[cfg(test)]
 mod tests;

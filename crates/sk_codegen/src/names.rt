@@ -4,7 +4,7 @@ ghost use Rattle.sk_tree.specs.Bindings.{bound_to};
 ghost use Rattle.sk_isa.specs.Scheme.{Around, known_of};
 ghost use Rattle.sk_codegen.specs.Names.{slot_of, known_in, slots_in, callee_of};
 
-use crate::scopes::Scopes;
+use sk_scopes::Scopes;
 use sk_tree::{Function, ParamKind};
 use std::alloc::{AllocError, Global};
 use std::marker::Model;

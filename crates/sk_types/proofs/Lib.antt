@@ -4,6 +4,5 @@ pub mod FunctionLemmas
 pub mod LeastLemmas
 pub mod NumberLemmas
 pub mod TakeLemmas
-pub mod Tidy
 pub mod ToldLemmas
 pub mod WalkLemmas

@@ -1,12 +1,12 @@
 -- Names noted with numbers.
 use Rattle.std.proofs.Common.{◌≡◌, ℕ, Bool, true, false, cond, if◌then◌else◌, List, [], ◌∷◌, ◌++◌, Option, Some, None, is_some, refl, sym, ◌∙◌, ap}
 use Rattle.std.specs.Global.{Vec}
+use Rattle.std.specs.Cmp.Lexicographic.{same_text}
 use Rattle.std.specs.Map.{lookup}
 use Rattle.std.specs.Option.{option_or}
 use Rattle.indexmap.specs.IndexMap.{insert_entry}
 use Rattle.sk_types.proofs.FoundLemmas.{turned}
 use Rattle.sk_tree.specs.Lexemes.{same_bytes}
-use Rattle.sk_types.proofs.Tidy.{equal_bytes}
 
 pub or_none : (a : Option ℕ) → option_or a None ≡ a
 or_none None = refl
@@ -29,7 +29,7 @@ kept find name other n has = by (same_bytes name other) refl
     some_or (Some x) has = refl
 
     by : (t : Bool) → same_bytes name other ≡ t → find other ≡ option_or (find other) (if t then Some n else None)
-    by true is = some_or (find other) (has ∙ ap (λ a. is_some (find a)) (equal_bytes name other is))
+    by true is = some_or (find other) (has ∙ ap (λ a. is_some (find a)) (same_text name other (sym is)))
     by false is = sym (or_none (find other))
 
 lookup_more : {K : Type 0} (test : K → Bool) (entries : List (K × ℕ)) (key : K) (n : ℕ)

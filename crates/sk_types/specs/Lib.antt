@@ -1,5 +1,4 @@
 pub mod Answers
 pub mod Found
 pub mod Numbers
-pub mod Scopes
 pub mod Told

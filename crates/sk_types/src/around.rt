@@ -4,7 +4,10 @@ ghost use Rattle.sk_tree.specs.TypingNames as names;
 ghost use Rattle.sk_tree.specs.TypingStatements as statements;
 ghost use Rattle.sk_types.specs.Told.{seen};
 
-use sk_tree::{Fault, FaultKind, Function};
+use sk_tree::{Fault, FaultKind, Function, Known};
+
+/// The names in scope where something stands, which contracts see as their list, the latest first.
+pub(crate) type Scopes<'a> = sk_scopes::Scopes<'a, Known>;
 
 /// Where something stands: in the function of that number among all of the program's, which may be main, in its outermost
 /// block or not, and in a statement of that line.

@@ -8,12 +8,11 @@ ghost use Rattle.sk_tree.specs.declared.names.Use.TheVariants.{Takes};
 ghost use Rattle.sk_types.specs.Told.{seen, argument_of, applied_told, first_kept};
 
 use crate::argument::{Argument, first_dimension, parts_fault, use_fault};
-use crate::around::Around;
+use crate::around::{Around, Scopes};
 use crate::fields::{is_field, is_method};
 use crate::kinds::scalars_only;
 use crate::least::earlier;
 use crate::places::numbers;
-use crate::scopes::Scopes;
 use crate::skeleton::value_use;
 use sk_tree::{Expr, Fault, FaultKind, Function, Known, ParamKind, Use};
 use sqlite_items::Items;

@@ -7,12 +7,11 @@ ghost use Rattle.sk_tree.specs.TypingStatements as walks;
 ghost use Rattle.sk_tree.specs.declared.names.Known.TheVariants.{Function as FunctionName};
 ghost use Rattle.sk_types.specs.Told.{seen};
 
-use crate::around::Around;
+use crate::around::{Around, Scopes};
 use crate::fields::spells;
 use crate::kinds::{are_ordered, same_type};
 use crate::least::earlier;
 use crate::returning::block_returns;
-use crate::scopes::Scopes;
 use crate::simple::twice_fault;
 use crate::statement::walk_block;
 use sk_tree::{Fault, FaultKind, Function, Known, Param, Statement, Ty};

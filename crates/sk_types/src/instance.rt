@@ -7,9 +7,8 @@ ghost use Rattle.sk_tree.specs.TypingNames as names;
 ghost use Rattle.sk_tree.specs.declared.names.FaultKind.TheVariants.{Arity};
 ghost use Rattle.sk_types.specs.Told.{seen};
 
-use crate::around::Around;
+use crate::around::{Around, Scopes};
 use crate::least::earlier;
-use crate::scopes::Scopes;
 use crate::skeleton::{elements_of, fits_skeleton, function_count, is_second, numbers_fit};
 use sk_tree::{Cell, Fault, FaultKind, Function, Instance, Known, Made, Name, Skeleton, Ty};
 

@@ -2,8 +2,7 @@
 //!
 //! - `fault`: the faults as they are told.
 //! - `least`: which of two faults is told.
-//! - `scopes`: the names in scope.
-//! - `around`: where something stands.
+//! - `around`: where something stands, and the names in scope there.
 //! - `kinds`, `fields`, `places`, `skeleton`, `setting`: the rules of parameters, skeletons and settings.
 //! - `argument`, `expression`, `uses`: expressions and what names take.
 //! - `instance`, `simple`, `statement`, `returning`: statements.
@@ -26,7 +25,6 @@ mod numbers;
 mod places;
 mod program;
 mod returning;
-mod scopes;
 mod setting;
 mod simple;
 mod skeleton;

@@ -5,10 +5,10 @@ ghost use Rattle.sk_tree.specs.Inputs as taking;
 ghost use Rattle.sk_tree.specs.Typing as typing;
 ghost use Rattle.sk_tree.specs.TypingFaults.{least_of};
 
+use crate::around::Scopes;
 use crate::function::{functions_fault, is_main_header, names_main};
 use crate::inputs::{Inputs, take_inputs};
 use crate::least::earlier;
-use crate::scopes::Scopes;
 use sk_tree::{Fault, Function, Program};
 use std::alloc::{AllocError, Global};
 

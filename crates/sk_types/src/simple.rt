@@ -12,12 +12,11 @@ ghost use Rattle.sk_tree.specs.declared.tree.What.TheOpen as layer;
 ghost use Rattle.sk_types.specs.Told.{seen};
 
 use crate::argument::use_fault;
-use crate::around::Around;
+use crate::around::{Around, Scopes};
 use crate::expression::judge_all;
 use crate::instance::{instance_fault, instance_known};
 use crate::least::earlier;
 use crate::places::numbers;
-use crate::scopes::Scopes;
 use crate::uses::{called_use, judge_setting, poked_use, set_use, used_fault, value_fault};
 use sk_tree::{Expr, Fault, FaultKind, Instance, Item, Known, Name, ParamKind, Setting, Ty, Use};
 use std::alloc::{AllocError, Global};

@@ -3,9 +3,8 @@ ghost use Rattle.sk_tree.specs.TypingFaults.{least_of};
 ghost use Rattle.sk_tree.specs.TypingStatements as walks;
 ghost use Rattle.sk_types.specs.Told.{seen};
 
-use crate::around::Around;
+use crate::around::{Around, Scopes};
 use crate::least::earlier;
-use crate::scopes::Scopes;
 use crate::simple::{assign, call, declare, declare_instance, make, poke, print, set, take};
 use crate::uses::value_fault;
 use sk_tree::{Fault, Statement, What};

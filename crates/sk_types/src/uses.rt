@@ -5,9 +5,8 @@ ghost use Rattle.sk_tree.specs.TypingInstances as instances;
 ghost use Rattle.sk_types.specs.Told.{seen, argument_of, first_kept};
 
 use crate::argument::{Argument, first_dimension, use_fault};
-use crate::around::Around;
+use crate::around::{Around, Scopes};
 use crate::expression::{element_use, judge, judge_all};
-use crate::scopes::Scopes;
 use crate::setting::setting_use;
 use crate::skeleton::statement_use;
 use sk_tree::{Expr, Fault, FaultKind, Known, ParamKind, Setting, Use};

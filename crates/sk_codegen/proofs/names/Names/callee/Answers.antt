@@ -3,7 +3,7 @@ use Rattle.std.specs.Option.{option_map}
 use Rattle.sk_tree.specs.Bindings.{bound_to}
 use Rattle.sk_isa.specs.Scheme.{Around}
 use Rattle.sk_codegen.specs.Names.{callee_of}
-use Rattle.sk_codegen.proofs.Tidy.{bound_to-map}
+use Rattle.sk_codegen.proofs.NameLemmas.{bound_to-map}
 use Rattle.sk_codegen.proofs.names.Names.callee.Goals as goal
 
 pub returns : goal.returns

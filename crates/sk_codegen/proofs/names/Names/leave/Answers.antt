@@ -1,7 +1,7 @@
 use Rattle.std.proofs.Common.{◌∙◌, ◌-◌, ap, List, ℕ, length, drop}
 use Rattle.sk_isa.specs.Scheme.{Around, Slot}
 use Rattle.sk_codegen.specs.Names.{slot_of, slots_in, known_in}
-use Rattle.sk_codegen.proofs.Tidy.{left-map}
+use Rattle.sk_codegen.proofs.NameLemmas.{left-map}
 use Rattle.sk_codegen.proofs.names.Names.leave.Goals as goal
 
 pub returns : goal.returns

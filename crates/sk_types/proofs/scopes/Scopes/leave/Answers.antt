@@ -1,7 +1,0 @@
-use Rattle.std.proofs.Common.{◌∙◌, arith}
-use Rattle.sk_types.proofs.Tidy.{leave-one}
-use Rattle.sk_types.proofs.scopes.Scopes.leave.Goals as goal
-
-pub loop-self-preserved : goal.loop-self-preserved
-loop-self-preserved c =
-    leave-one c.args.depth c.loop-self.self c.undo.new.self (omega (arith, c.loop-self-test.true, c.depth.ensures)) c.undo.ensures ∙ c.loop-self.invariant

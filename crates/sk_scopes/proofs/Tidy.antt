@@ -8,19 +8,17 @@ use Rattle.sk_tree.specs.Lexemes.{same_bytes}
 use Rattle.sk_scopes.specs.Scopes.{IsTidy, Rebinds, bindings_of}
 use Rattle.sk_scopes.specs.declared.scopes.Binding.{Binding}
 
-pub equal_bytes : (a b : List ℕ) → same_bytes a b ≡ true → a ≡ b
-equal_bytes a b same = same_text a b (sym same)
-
 -- what a test on two lists of bytes chooses, by cases
-pub by_name : {X : Type 0} (a b : List ℕ) (x y z : X)
+by_name : {X : Type 0} (a b : List ℕ) (x y z : X)
     → (a ≡ b → x ≡ z) → (same_bytes a b ≡ false → y ≡ z) → (if same_bytes a b then x else y) ≡ z
 by_name {X} a b x y z equal different = by (same_bytes a b) refl
   where
     by : (t : Bool) → same_bytes a b ≡ t → (if t then x else y) ≡ z
-    by true is = equal (equal_bytes a b is)
+    by true is = equal (same_text a b (sym is))
     by false is = different is
 
-pub tidy-same : {X : Type 0} (find other : List ℕ → Option X) (declared : List (Binding X))
+-- look-ups that find the same are tidy alike
+tidy-same : {X : Type 0} (find other : List ℕ → Option X) (declared : List (Binding X))
     → ((name : List ℕ) → other name ≡ find name) → IsTidy find declared → IsTidy other declared
 tidy-same {X} find other [] same tidy = λ name. same name ∙ tidy name
 tidy-same {X} find other (binding ∷ earlier) same tidy = (
@@ -42,8 +40,8 @@ tidy-finds {X} find (binding ∷ earlier) tidy name =
     (λ name. if same_bytes binding.name.now name then binding.shadowed else find name) earlier tidy.1 name)
     ∙ ap (λ (t : Bool). if t then binding.shadowed else find name) other))
 
--- a declaration
-pub tidy-declare : {X : Type 0} (find other : List ℕ → Option X) (binding : Binding X) (declared : List (Binding X))
+-- one declaration more
+tidy-declare : {X : Type 0} (find other : List ℕ → Option X) (binding : Binding X) (declared : List (Binding X))
     → ((name : List ℕ) → other name ≡ (if same_bytes binding.name.now name then Some binding.known else find name))
     → binding.shadowed ≡ find binding.name.now
     → IsTidy find declared → IsTidy other (binding ∷ declared)
@@ -77,6 +75,7 @@ tidy-undone {X} find other binding old new popped rebinds tidy =
     let before : IsTidy find (binding ∷ reverse new) = subst P (ap reverse popped ∙ turned) tidy in
     tidy-same (λ name. if same_bytes binding.name.now name then binding.shadowed else find name) other (reverse new) rebinds before.1
 
+-- what a look-up finds of the latest declaration's name
 pub tidy-latest : {X : Type 0} (find : List ℕ → Option X) (binding : Binding X) (old new : List (Binding X))
     → old ≡ new ++ binding ∷ [] → IsTidy find (reverse old) → find binding.name.now ≡ Some binding.known
 tidy-latest {X} find binding old new popped tidy =
@@ -94,5 +93,6 @@ leave-one depth (x ∷ xs) new below is =
     let rest : new ≡ xs = is in
     rw (rest, fewer) refl
 
+-- a name that is found is bound
 pub some_found : {X : Type 0} (found : Option X) (known : X) → found ≡ Some known → IsSome found
 some_found {X} found known is = let P : Option X → Type 0 = λ found. IsSome found in subst P (sym is) refl

@@ -19,8 +19,6 @@ mod output;
 mod plans;
 mod program;
 mod statements;
-#[cfg(test)]
-mod tests;
 mod types;
 
 pub use laws::{code_means_source, code_runs_as_source, plain_programs_are_sound};

@@ -1,5 +1,5 @@
 -- The names in scope, as the scheme, the machine and evaluation have them.
-use Rattle.std.proofs.Common.{◌≡◌, ℕ, zero, suc, ◌-◌, ◌<◌, ◌≤◌, List, [], ◌∷◌, ◌++◌, length, map, drop, ℤ, Some, None, refl, sym, ap, ◌∙◌, subst, arith, length-append}
+use Rattle.std.proofs.Common.{◌≡◌, ℕ, suc, ◌-◌, ◌<◌, ◌≤◌, List, [], ◌∷◌, ◌++◌, length, map, drop, ℤ, Some, None, refl, sym, ap, ◌∙◌, subst, arith, length-append}
 use Rattle.std.specs.Prelude.{slice_get, slice_set, Result, Ok, Err, if◌then◌else◌, true, false, Bool, ◌||◌}
 use Rattle.sk_base.specs.declared.number.Ty.{Ty}
 use Rattle.sk_base.specs.declared.number.Trap.{Trap}
@@ -13,13 +13,9 @@ use Rattle.sk_tree.specs.declared.tree.ParamKind.TheVariants.{Scalar}
 use Rattle.sk_isa.specs.Coded.{Callee}
 use Rattle.sk_isa.specs.Scheme.{Slot, Known}
 use Rattle.sk_codegen.specs.Plain.{Counts, Names, is_among}
-
-module _ {X : Type 0} where
-  -- at a binding by its parts
-  pub bound_to-here : (name : List ℕ) (n : List ℕ) (p : List ℕ × X) (earlier : List (List ℕ × X)) (b : Bool) → n ≡ p.0 → same_bytes n name ≡ b
-      → bound_to name (p ∷ earlier) ≡ (if b then Some p.1 else bound_to name earlier)
-  bound_to-here name n p earlier b e s =
-      ap (λ c. if c then Some p.1 else bound_to name earlier) (ap (λ (m : List ℕ). same_bytes m name) (sym e) ∙ s)
+use Rattle.sk_codegen.proofs.Truths.{some_same}
+use Rattle.sk_codegen.proofs.Lists.{slice_get-set_same, slice_get-set_other, slice_get-set_above}
+use Rattle.sk_codegen.proofs.Bindings.{bound_to-here, names_of, bound_to-none}
 
 -- the parameters' types of the values
 abbrev pub fitted : List ParamKind → List ℤ → List ℤ
@@ -55,9 +51,6 @@ pub record IsFound (callees : List Callee) (name : List ℕ) (count : ℕ) (ks :
   pub known_is : bound_to name ks ≡ Some known
   pub callable_is : bound_to name fs ≡ Some callable
   pub same : IsCallee callees count known callable
-
-some_same : {X : Type 0} (x y : X) → Some x ≡ Some y → x ≡ y
-some_same x y e = cc
 
 pub callee_found : (callees : List Callee) (name : List ℕ) (count : ℕ) (cs : Counts) (ks : List (List ℕ × Known)) (fs : Callables) → AreCallees callees cs ks fs
     → bound_to name cs ≡ Some count → IsFound callees name count ks fs
@@ -102,9 +95,6 @@ Agree [] [] slots bound = Unit {0}
 Agree (one ∷ scope) (other ∷ values) slots bound = IsLocal one other slots bound × Agree scope values slots one.1.number
 Agree scope values slots bound = ⊥
 
-abbrev pub names_of : List (List ℕ × Slot) → Names
-names_of scope = map (λ slot. slot.0) scope
-
 local_moved : (one : List ℕ × Slot) (other : List ℕ × Binding) (slots slots' : List ℤ) (bound bound' : ℕ) (h : IsLocal one other slots bound) → one.1.number < bound'
     → slice_get slots' one.1.number ≡ Some h.value → IsLocal one other slots' bound'
 local_moved one other slots slots' bound bound' h below held = record {
@@ -123,23 +113,6 @@ agree_wider [] [] slots bound more le h = tt
 agree_wider (one ∷ scope) (other ∷ values) slots bound more le h =
     (local_moved one other slots slots bound more h.0 (omega (arith, h.0.below, le)) h.0.held, h.1)
 agree_wider scope values slots bound more le h = absurd h
-
-pub slice_get-set_other : (slots : List ℤ) (i j : ℕ) (v : ℤ) → i < j → slice_get (slice_set slots j v) i ≡ slice_get slots i
-slice_get-set_other [] i j v below = refl
-slice_get-set_other (x ∷ slots) i zero v below = absurd (omega (arith, below))
-slice_get-set_other (x ∷ slots) zero (suc j) v below = refl
-slice_get-set_other (x ∷ slots) (suc i) (suc j) v below = slice_get-set_other slots i j v (omega (arith, below))
-
-slice_get-set_above : (slots : List ℤ) (i j : ℕ) (v : ℤ) → j < i → slice_get (slice_set slots j v) i ≡ slice_get slots i
-slice_get-set_above [] i j v above = refl
-slice_get-set_above (x ∷ slots) zero j v above = absurd (omega (arith, above))
-slice_get-set_above (x ∷ slots) (suc i) zero v above = refl
-slice_get-set_above (x ∷ slots) (suc i) (suc j) v above = slice_get-set_above slots i j v (omega (arith, above))
-
-pub slice_get-set_same : (slots : List ℤ) (i : ℕ) (v : ℤ) → i < length slots → slice_get (slice_set slots i v) i ≡ Some v
-slice_get-set_same [] i v within = absurd (omega (arith, within))
-slice_get-set_same (x ∷ slots) zero v within = refl
-slice_get-set_same (x ∷ slots) (suc i) v within = slice_get-set_same slots i v (omega (arith, within))
 
 -- a slot that is not yet one of a name
 pub agree_set : (scope : List (List ℕ × Slot)) (values : Scope) (slots : List ℤ) (bound slot : ℕ) (v : ℤ) → bound ≤ slot → Agree scope values slots bound
@@ -244,23 +217,18 @@ name_bound name (one ∷ scope) (other ∷ values) slots bound h e =
         }
 name_bound name scope values slots bound h e = absurd h
 
+agree_names : (scope : List (List ℕ × Slot)) (values : Scope) (slots : List ℤ) (bound : ℕ) → Agree scope values slots bound → names_of scope ≡ names_of values
+agree_names [] [] slots bound h = refl
+agree_names (one ∷ scope) (other ∷ values) slots bound h =
+    ap (λ (n : List ℕ). n ∷ names_of scope) h.0.name ∙ ap (λ (l : Names). other.0 ∷ l) (agree_names scope values slots one.1.number h.1)
+agree_names scope values slots bound h = absurd h
+
 -- a name that is not among those in scope
 pub name_unbound : (name : List ℕ) (scope : List (List ℕ × Slot)) (values : Scope) (slots : List ℤ) (bound : ℕ) → Agree scope values slots bound
     → is_among name (names_of scope) ≡ false → (bound_to name scope ≡ None) × (bound_to name values ≡ None)
-name_unbound name [] [] slots bound h e = (refl, refl)
-name_unbound name (one ∷ scope) (other ∷ values) slots bound h e =
-    by_test (same_bytes one.0 name) refl (name_unbound name scope values slots one.1.number h.1)
-  where
-    by_test : (b : Bool) → same_bytes one.0 name ≡ b → (is_among name (names_of scope) ≡ false → (bound_to name scope ≡ None) × (bound_to name values ≡ None))
-        → (bound_to name (one ∷ scope) ≡ None) × (bound_to name (other ∷ values) ≡ None)
-    by_test true s later =
-        let no : true ≡ false = sym (ap (λ c. c || is_among name (names_of scope)) s) ∙ e in
-        let wrong : ⊥ = cc in absurd wrong
-    by_test false s later =
-        let none : is_among name (names_of scope) ≡ false = sym (ap (λ c. c || is_among name (names_of scope)) s) ∙ e in
-        let r = later none in
-        (bound_to-here name one.0 one scope false refl s ∙ r.0, bound_to-here name one.0 other values false h.0.name s ∙ r.1)
-name_unbound name scope values slots bound h e = absurd h
+name_unbound name scope values slots bound h e =
+    let same = agree_names scope values slots bound h in
+    (bound_to-none name scope e, bound_to-none name values (sym (ap (is_among name) same) ∙ e))
 
 pub agree_length : (scope : List (List ℕ × Slot)) (values : Scope) (slots : List ℤ) (bound : ℕ) → Agree scope values slots bound → length scope ≡ length values
 agree_length [] [] slots bound h = refl

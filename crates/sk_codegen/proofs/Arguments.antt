@@ -1,6 +1,5 @@
 -- Arguments, one after another.
-use Rattle.std.proofs.Common.{◌≡◌, ℕ, zero, suc, ◌+◌, ◌<◌, max, List, [], ◌∷◌, ◌++◌, length, drop, get_or, Option, Some, refl, sym, ap, ◌∙◌, arith, append_assoc, length-append, append-nil, add-one}
-use Rattle.std.proofs.Math.Seq.{drop-cons}
+use Rattle.std.proofs.Common.{◌≡◌, ℕ, zero, suc, ◌+◌, max, List, [], ◌∷◌, ◌++◌, length, drop, Option, Some, refl, sym, ap, ◌∙◌, arith, append_assoc, length-append, append-nil}
 use Rattle.std.specs.Prelude.{slice_get}
 use Rattle.sk_tree.specs.declared.tree.ParamKind.{ParamKind}
 use Rattle.sk_isa.specs.Scheme.{Compiled, Around, then_code, arguments_code, places_code, applied_code, Known}
@@ -56,15 +55,6 @@ element_applied number kind known parts around old middle new count counted plac
     by (Proxy dimension ty) is = is ∙ append_assoc old (places_code parts around (length old)) (instr.Item number (length parts) ∷ [])
     by (Region dimension ty) is = is ∙ append_assoc old (places_code parts around (length old)) (instr.Region number (length parts) ∷ [])
 
--- the first of those that are left
-pub left_cons : {X : Type 0} (xs : List X) (i : ℕ) (x : X) → i < length xs → x ≡ get_or xs i x → drop i xs ≡ x ∷ drop (i + 1) xs
-left_cons xs i x within is =
-    drop-cons xs i x within ∙ ap (λ first. first ∷ drop (suc i) xs) (sym is) ∙ ap (λ n. x ∷ drop n xs) (sym (add-one i))
-
+-- the most values on the stack, where one more argument is evaluated
 pub depth_more : (depth i own rest all result : ℕ) → result ≡ max depth (i + own) → max depth (i + max own (suc rest)) ≡ all → max result (i + 1 + rest) ≡ all
 depth_more depth i own rest all result is whole = omega (arith, is, whole)
-
--- one more, and what is left
-pub appended_more : {X : Type 0} (xs more rest left : List X) (x : X) → more ≡ xs ++ x ∷ [] → left ≡ rest → more ++ left ≡ xs ++ x ∷ rest
-appended_more xs more rest left x appended same =
-    ap (λ l. l ++ left) appended ∙ append_assoc xs (x ∷ []) left ∙ ap (λ l. xs ++ x ∷ l) same

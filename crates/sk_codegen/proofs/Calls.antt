@@ -1,6 +1,7 @@
 -- What the code of arguments and of a call gives.
-use Rattle.std.proofs.Common.{◌≡◌, ℕ, suc, ◌+◌, ◌≤◌, List, [], ◌∷◌, ◌++◌, length, map, reverse, take, drop, ℤ, Option, Some, None, refl, sym, ap, ◌∙◌, subst, arith, append_assoc, length-append, rules}
-use Rattle.std.proofs.lemmas.List.{length-reverse, reverse-append}
+use Rattle.std.proofs.Common.{◌≡◌, ℕ, suc, ◌+◌, ◌≤◌, List, [], ◌∷◌, ◌++◌, length, map, reverse, take, drop, ℤ, Option, Some, None, refl, sym, ap, ◌∙◌, subst, arith, length-append}
+use Rattle.std.proofs.lemmas.Bool.{le-leb}
+use Rattle.std.proofs.lemmas.List.{length-reverse, reverse-reverse}
 use Rattle.std.proofs.Math.Seq.{take-append_seam, drop-append_seam}
 use Rattle.std.specs.Prelude.{slice_get, Result, Ok, Err, nat_le, if◌then◌else◌, true, Bool}
 use Rattle.sk_base.specs.declared.number.Ty.{Ty}
@@ -13,6 +14,7 @@ use Rattle.sk_isa.specs.Coded.{Point, Routine, Callee, Next, Stuck, next_of, ret
 use Rattle.sk_isa.specs.Scheme.{Known}
 use Rattle.sk_isa.specs.declared.code.Instr.{Instr}
 use Rattle.sk_isa.specs.declared.code.Instr.TheVariants as instr
+use Rattle.sk_codegen.proofs.Lists.{reverse-onto}
 use Rattle.sk_codegen.proofs.Runs.{HasAt, has_back, stands, Finishes, Leads, leads_on, step, last_step, leads_same, Gives, after}
 use Rattle.sk_codegen.proofs.Agreement.{fitted, IsCallValue, IsCallee}
 
@@ -22,24 +24,13 @@ pushed kinds values stack = reverse (fitted kinds values) ++ stack
 
 pushed-more : (kind : ParamKind) (kinds : List ParamKind) (value : ℤ) (values stack : List ℤ)
     → pushed kinds values (wrapped (kind_type kind) value ∷ stack) ≡ pushed (kind ∷ kinds) (value ∷ values) stack
-pushed-more kind kinds value values stack =
-    let v : ℤ = wrapped (kind_type kind) value in
-    let f : List ℤ = fitted kinds values in
-    sym (ap (λ l. l ++ stack) (reverse-append (v ∷ []) f) ∙ append_assoc (reverse f) (v ∷ []) stack)
+pushed-more kind kinds value values stack = reverse-onto (wrapped (kind_type kind) value) (fitted kinds values) stack
 
 fitted-length : (kinds : List ParamKind) (values : List ℤ) → length values ≡ length kinds → length (fitted kinds values) ≡ length kinds
 fitted-length [] [] e = refl
 fitted-length [] (value ∷ values) e = absurd (omega (arith, e))
 fitted-length (kind ∷ kinds) [] e = e
 fitted-length (kind ∷ kinds) (value ∷ values) e = ap suc (fitted-length kinds values (omega (arith, e)))
-
-reverse-twice : (l : List ℤ) → reverse (reverse l) ≡ l
-reverse-twice [] = refl
-reverse-twice (x ∷ l) =
-    ap reverse (reverse-append (x ∷ []) l) ∙ reverse-append (reverse l) (x ∷ []) ∙ ap (λ r. x ∷ r) (reverse-twice l)
-
-nat_le-refl : (n m : ℕ) → n ≤ m → nat_le n m ≡ true
-nat_le-refl n m le = search rules
 
 module _ (routine : Routine) where
   -- what the code of arguments does
@@ -86,11 +77,11 @@ module _ (routine : Routine) where
       let next : List ℤ → List ℤ → Next = λ values rest. returning (stands at (reverse f ++ stack) slots turns) rest (callee.call values turns) in
       let n : callee.takes ≡ length (reverse f) = takes ∙ sym (length-reverse f) in
       let enough : nat_le (length (reverse f)) (length (reverse f ++ stack)) ≡ true =
-      nat_le-refl _ _ (omega (arith, length-append (reverse f) stack)) in
+      le-leb _ _ (omega (arith, length-append (reverse f) stack)) in
       ap (λ c. with_many c (reverse f ++ stack) next) n
       ∙ ap (λ (b : Bool). if b then next (reverse (take (length (reverse f)) (reverse f ++ stack))) (drop (length (reverse f)) (reverse f ++ stack)) else Stuck) enough
       ∙ ap (λ (l : List ℤ). next (reverse l) (drop (length (reverse f)) (reverse f ++ stack))) (take-append_seam (reverse f) stack)
-      ∙ ap (λ (l : List ℤ). next l (drop (length (reverse f)) (reverse f ++ stack))) (reverse-twice f)
+      ∙ ap (λ (l : List ℤ). next l (drop (length (reverse f)) (reverse f ++ stack))) (reverse-reverse f)
       ∙ ap (λ (l : List ℤ). next f l) (drop-append_seam (reverse f) stack)
 
   pub call_gives : (count : ℕ) (known : Known) (callable : Callable) (same : IsCallee routine.callees count known callable) (slots : List ℤ) (at to : ℕ) (stack values : List ℤ) (turns : ℕ)

@@ -1,6 +1,6 @@
 -- What the code of choices and loops does, from what the code of their parts does.
-use Rattle.std.proofs.Common.{◌≡◌, ℕ, suc, ◌+◌, ◌≤◌, List, [], ◌∷◌, ◌++◌, length, Some, refl, ap, subst, arith, length-append}
-use Rattle.std.specs.Prelude.{if◌then◌else◌, true, ◌&&◌}
+use Rattle.std.proofs.Common.{◌≡◌, ℕ, suc, ◌+◌, ◌≤◌, List, [], ◌∷◌, ◌++◌, length, refl, subst, arith, length-append}
+use Rattle.std.specs.Prelude.{if◌then◌else◌, ◌&&◌}
 use Rattle.sk_tree.specs.Evaluation.{Callables, Doing, in_block, left_behind, value_in, doing_step}
 use Rattle.sk_tree.specs.Expressions.{holds}
 use Rattle.sk_tree.specs.declared.tree.Expr.{Expr}
@@ -10,13 +10,15 @@ use Rattle.sk_isa.specs.Coded.{Routine}
 use Rattle.sk_isa.specs.Scheme.{Around, Compiled, compiled_of, Within, Standing, Emitted, Emitting, around_in, block_emitted, if_emitted, if_else_emitted}
 use Rattle.sk_isa.specs.declared.code.Instr.{Instr}
 use Rattle.sk_isa.specs.declared.code.Instr.TheVariants as instr
-use Rattle.sk_codegen.specs.Plain.{Counts, Names, is_plain_expression, Judged, judged_step, judged_if, behind_if, block_is_plain}
+use Rattle.sk_codegen.specs.Plain.{Counts, is_plain_expression, Judged, judged_step, judged_if, block_is_plain}
 use Rattle.sk_codegen.proofs.Runs.{HasAt, has_front, has_back, has_rest, leads_on, leads_same}
 use Rattle.sk_codegen.proofs.ExpressionNodes.{jump_leads}
-use Rattle.sk_codegen.proofs.Agreement.{names_of, agree_wider, agree_same, agree_length}
-use Rattle.sk_codegen.proofs.ExpressionRuns.{IsRun, and_left, and_right}
+use Rattle.sk_codegen.proofs.Bindings.{names_of}
+use Rattle.sk_codegen.proofs.Agreement.{agree_wider, agree_same, agree_length}
+use Rattle.sk_codegen.proofs.PlainParts.{plain_block, if_parts}
+use Rattle.sk_codegen.proofs.ExpressionRuns.{IsRun}
 use Rattle.sk_codegen.proofs.Flows.{Runs, runs_before, runs_value, runs_branch, runs_nothing}
-use Rattle.sk_codegen.proofs.StatementNodes.{Follows, same_scope, expression_gives, behind_if_is}
+use Rattle.sk_codegen.proofs.StatementNodes.{Follows, same_scope, expression_gives}
 
 -- the address of a statement's code is another
 abbrev pub moved : Standing → ℕ → List ParamKind → Standing
@@ -29,10 +31,6 @@ module _ (routine : Routine) (counts : Counts) (within : Within) (callables : Ca
   abbrev pub IsFollowing : Doing → Emitting → Judged → Type 0
   IsFollowing = Follows routine counts within callables
 
-  -- a plain block
-  pub plain_block : (js : List Judged) (names : Names) → block_is_plain js counts names ≡ true → (judged_if (block_is_plain js)).behind counts names ≡ Some names
-  plain_block js names e = ap (λ b. behind_if b names) e
-
   pub if_follows : (test : Expr) (ds : List Doing) (es : List Emitting) (js : List Judged) → IsRun routine counts within.functions callables test → IsBlock ds es js
       → IsFollowing (doing_step (what.If test ds [])) (if_emitted (compiled_of test) es) (judged_step (what.If test js []))
   if_follows test ds es js is f = record {
@@ -41,10 +39,7 @@ module _ (routine : Routine) (counts : Counts) (within : Within) (callables : Ca
     runs = λ st values slots turns after h agree room has.
         let names = names_of st.scope in
         let code = routine.instrs in
-        let fine = (behind_if_is (is_plain_expression test counts names && block_is_plain js counts names && block_is_plain [] counts names) names after h).0 in
-        let fine1 = and_left (is_plain_expression test counts names && block_is_plain js counts names) (block_is_plain [] counts names) fine in
-        let test_plain = and_left (is_plain_expression test counts names) (block_is_plain js counts names) fine1 in
-        let body_plain = and_right (is_plain_expression test counts names) (block_is_plain js counts names) fine1 in
+        let plain = if_parts counts test js [] names after h in
         let a : Around = around_in within st in
         let c : Compiled = compiled_of test in
         let first : List Instr = c.code a st.at in
@@ -60,11 +55,11 @@ module _ (routine : Routine) (counts : Counts) (within : Within) (callables : Ca
         let e1 : at1 + 1 ≡ suc at1 = omega arith in
         let bound : ℕ = length inner.slots in
         runs_value routine within.ret (c.ty a) slots st.at turns at1 end st.scope bound (value_in test callables values turns) (λ value turns. in_block (if holds value then ds else []) callables values turns)
-        (expression_gives routine counts within callables test is st values slots turns test_plain agree (has_front code st.at first (instr.Zero end0 ∷ inner.code) has))
+        (expression_gives routine counts within callables test is st values slots turns plain.test_plain agree (has_front code st.at first (instr.Zero end0 ∷ inner.code) has))
         (λ v left fewer fits. runs_branch routine within.ret slots at1 left end0 end st.scope bound v (λ b. in_block (if b then ds else []) callables values left) has1.0
         (subst (λ n. Runs routine within.ret slots n [] left end st.scope bound (in_block ds callables values left)) e1
         (runs_before routine within.ret slots (at1 + 1) [] left end0 end st.scope bound bound (in_block ds callables values left) (omega arith) (λ s l. leads_same routine end0 end [] s l len)
-        (f.runs st1 values slots left names (plain_block js names body_plain) agree room has2)))
+        (f.runs st1 values slots left names (plain_block counts js names plain.body_plain) agree room has2)))
         (runs_nothing routine within.ret slots end0 left end st.scope bound (left_behind values values) len
         (agree_wider st.scope (left_behind values values) slots (length st.slots) bound (f.keeps.slots st1)
         (agree_same st.scope values values slots (length st.slots) (agree_length st.scope values slots (length st.slots) agree) agree))));
@@ -83,11 +78,7 @@ module _ (routine : Routine) (counts : Counts) (within : Within) (callables : Ca
     runs = λ st values slots turns after h agree room has.
         let names = names_of st.scope in
         let code = routine.instrs in
-        let fine = (behind_if_is (is_plain_expression test counts names && block_is_plain js counts names && block_is_plain js2 counts names) names after h).0 in
-        let fine1 = and_left (is_plain_expression test counts names && block_is_plain js counts names) (block_is_plain js2 counts names) fine in
-        let test_plain = and_left (is_plain_expression test counts names) (block_is_plain js counts names) fine1 in
-        let body_plain = and_right (is_plain_expression test counts names) (block_is_plain js counts names) fine1 in
-        let other_plain = and_right (is_plain_expression test counts names && block_is_plain js counts names) (block_is_plain js2 counts names) fine in
+        let plain = if_parts counts test js js2 names after h in
         let a : Around = around_in within st in
         let c : Compiled = compiled_of test in
         let first : List Instr = c.code a st.at in
@@ -114,13 +105,13 @@ module _ (routine : Routine) (counts : Counts) (within : Within) (callables : Ca
         let less : length inner.slots ≤ bound = g.keeps.slots st2 in
         let less0 : length st.slots ≤ length inner.slots = f.keeps.slots st1 in
         runs_value routine within.ret (c.ty a) slots st.at turns at1 end st.scope bound (value_in test callables values turns) (λ value turns. in_block (if holds value then ds else ds2) callables values turns)
-        (expression_gives routine counts within callables test is st values slots turns test_plain agree (has_front code st.at first (instr.Zero third ∷ inner.code) has_body))
+        (expression_gives routine counts within callables test is st values slots turns plain.test_plain agree (has_front code st.at first (instr.Zero third ∷ inner.code) has_body))
         (λ v left fewer fits. runs_branch routine within.ret slots at1 left third end st.scope bound v (λ b. in_block (if b then ds else ds2) callables values left) has1.0
         (subst (λ n. Runs routine within.ret slots n [] left end st.scope bound (in_block ds callables values left)) e1
         (runs_before routine within.ret slots (at1 + 1) [] left at3 end st.scope (length inner.slots) bound (in_block ds callables values left) less
         (λ s l. leads_on routine _ _ _ (jump_leads routine (third + length last.code) at3 [] s l has3.0) (leads_same routine (third + length last.code) end [] s l len))
-        (f.runs st1 values slots left names (plain_block js names body_plain) agree (omega (arith, room, less)) has2)))
+        (f.runs st1 values slots left names (plain_block counts js names plain.body_plain) agree (omega (arith, room, less)) has2)))
         (runs_before routine within.ret slots third [] left (third + length last.code) end st.scope bound bound (in_block ds2 callables values left) (omega arith)
         (λ s l. leads_same routine (third + length last.code) end [] s l len)
-        (g.runs st2 values slots left names (plain_block js2 names other_plain) (agree_wider st.scope values slots (length st.slots) (length inner.slots) less0 agree) room has4)));
+        (g.runs st2 values slots left names (plain_block counts js2 names plain.other_plain) (agree_wider st.scope values slots (length st.slots) (length inner.slots) less0 agree) room has4)));
   }

@@ -1,11 +1,12 @@
 -- Statements declare names before those in scope, and blocks leave them again.
-use Rattle.std.proofs.Common.{◌≡◌, ℕ, ◌+◌, ◌-◌, List, [], ◌∷◌, ◌++◌, length, drop, map, Option, Some, None, refl, sym, ap, ◌∙◌, subst, arith, append_assoc, length-append, add-one}
+use Rattle.std.proofs.Common.{◌≡◌, ℕ, ◌-◌, List, [], ◌∷◌, ◌++◌, length, drop, map, Option, Some, None, refl, sym, ap, ◌∙◌, subst, append_assoc}
 use Rattle.sk_tree.specs.Bindings.{bound_to}
 use Rattle.sk_tree.specs.declared.tree.Statement.{Statement, fold_out-Statement}
 use Rattle.sk_tree.specs.declared.tree.What.{What, What-F, out-What, map-What, fold_out-What}
 use Rattle.sk_tree.specs.declared.tree.What.TheOpen as what
 use Rattle.sk_isa.specs.Scheme.{Slot, Compiled, Emitting, Emitted, Within, Standing, emitting_of, emitting_step, assigned_code, all_emitted, behind, compiled_of}
 use Rattle.sk_isa.specs.SchemeLaws.{emitting_what}
+use Rattle.sk_codegen.proofs.Lists.{drop_front}
 
 abbrev Scope : Type 0
 Scope = List (List ℕ × Slot)
@@ -18,15 +19,21 @@ pub record Extends (outer inner : Scope) : Type 0 where
 pub extends_same : (scope : Scope) → Extends scope scope
 extends_same scope = record { declared = []; is = refl }
 
-assigned_extends : (slot : Option Slot) (part : Compiled) (within : Within) (standing : Standing)
-    → Extends standing.scope (assigned_code slot part within standing).scope
-assigned_extends (Some slot) part within standing = extends_same standing.scope
-assigned_extends None part within standing = extends_same standing.scope
+-- an assignment declares no name
+pub assigned_scope : (slot : Option Slot) (part : Compiled) (within : Within) (standing : Standing) → (assigned_code slot part within standing).scope ≡ standing.scope
+assigned_scope (Some slot) part within standing = refl
+assigned_scope None part within standing = refl
+
+-- nor does it take a slot
+pub assigned_slots : (slot : Option Slot) (part : Compiled) (within : Within) (standing : Standing) → (assigned_code slot part within standing).slots ≡ standing.slots
+assigned_slots (Some slot) part within standing = refl
+assigned_slots None part within standing = refl
 
 step_extends : (level : What-F Emitting Emitting) (within : Within) (standing : Standing)
     → Extends standing.scope (emitting_step level within standing).scope
 step_extends (what.Declare ty name expr) within standing = record { declared = _ ∷ []; is = refl }
-step_extends (what.Assign name expr) within standing = assigned_extends (bound_to name standing.scope) (compiled_of expr) within standing
+step_extends (what.Assign name expr) within standing =
+    record { declared = []; is = assigned_scope (bound_to name standing.scope) (compiled_of expr) within standing }
 step_extends (what.Poke name places expr) within standing = extends_same standing.scope
 step_extends (what.Make kind ty name arguments) within standing = extends_same standing.scope
 step_extends (what.Take kind ty name text) within standing = extends_same standing.scope
@@ -62,12 +69,6 @@ all_extend (s ∷ ss) within standing =
       declared = rest.declared ++ first.declared;
       is = rest.is ∙ ap (λ scope. rest.declared ++ scope) first.is ∙ sym (append_assoc rest.declared first.declared standing.scope);
     }
-
-drop_front : {X : Type 0} (front back : List X) → drop (length (front ++ back) - length back) (front ++ back) ≡ back
-drop_front [] back = let none : length back - length back ≡ 0 = omega arith in rw none refl
-drop_front (x ∷ front) back =
-    let more : length (x ∷ front ++ back) - length back ≡ length (front ++ back) - length back + 1 = omega (arith, length-append front back) in
-    rw (more, add-one) (drop_front front back)
 
 -- what was declared is left again
 pub left_again : (outer inner : Scope) (depth : ℕ) → Extends outer inner → depth ≡ length outer → drop (length inner - depth) inner ≡ outer

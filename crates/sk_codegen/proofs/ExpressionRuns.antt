@@ -1,13 +1,12 @@
 -- The code of a plain expression gives the expression's value.
-use Rattle.std.proofs.Common.{◌≡◌, ℕ, suc, ◌+◌, List, [], ◌∷◌, ◌++◌, length, map, ℤ, pos, negsuc, Option, Some, None, refl, sym, ap, ◌∙◌, subst, arith, length-append, rules}
-use Rattle.std.proofs.lemmas.Bool.{leb-true}
+use Rattle.std.proofs.Common.{◌≡◌, ℕ, suc, ◌+◌, List, [], ◌∷◌, ◌++◌, length, map, ℤ, pos, negsuc, Option, Some, None, refl, sym, ap, ◌∙◌, subst, arith, length-append}
+use Rattle.std.proofs.lemmas.Bool.{leb-true, not-true}
 use Rattle.std.specs.Prelude.{Result, Ok, true, false, Bool, not, ◌&&◌}
-use Rattle.std.specs.List.{list_all}
 use Rattle.sk_base.specs.declared.number.Ty.{Ty}
 use Rattle.sk_base.specs.declared.number.Ty.TheVariants.{Int, Long}
 use Rattle.sk_base.specs.declared.number.Op.{Op}
 use Rattle.sk_base.specs.declared.number.Trap.{Trap}
-use Rattle.sk_base.specs.Arithmetic.{InRange, wrapped}
+use Rattle.sk_base.specs.Arithmetic.{InRange}
 use Rattle.sk_tree.specs.Bindings.{bound_to}
 use Rattle.sk_tree.specs.Evaluation.{Callables, Callable, Scope, Value, Binding, names_in, kind_type, number_in, keeping, element_at}
 use Rattle.sk_tree.specs.Expressions.{Meaning, Names, meaning_of, meaning_step, values_of, then_do, wider, operation_type, result_type, prefix_type}
@@ -25,29 +24,17 @@ use Rattle.sk_codegen.specs.Plain.{Counts, is_plain_expression, plain_expression
 use Rattle.sk_codegen.proofs.Runs.{HasAt, has_front, has_back, stands, leads_same, Gives, widened, one_gives}
 use Rattle.sk_codegen.proofs.ExpressionNodes.{prefix_gives, wanted_gives, push_gives, both_gives, either_gives, choice_gives, binary_gives, wider_left, wider_right}
 use Rattle.sk_codegen.proofs.Calls.{GivesMany, more_gives, apply_gives}
-use Rattle.sk_codegen.proofs.Agreement.{Agree, AreCallees, IsBound, IsFound, name_bound, name_unbound, callee_found, names_of}
-
-pub and_left : (a b : Bool) → (a && b) ≡ true → a ≡ true
-and_left true b e = refl
-and_left false b e = e
-
-pub and_right : (a b : Bool) → (a && b) ≡ true → b ≡ true
-and_right true b e = e
-and_right false b e = let no : ⊥ = cc in absurd no
-
-pub not_true : (a : Bool) → not a ≡ true → a ≡ false
-not_true true e = sym e
-not_true false e = refl
+use Rattle.sk_codegen.proofs.Truths.{and_left, and_right}
+use Rattle.sk_codegen.proofs.PlainParts.{takes_some}
+use Rattle.sk_codegen.proofs.Parts.{exprs_of, codes_at, plains, plains_length, parts_plain}
+use Rattle.sk_codegen.proofs.Bindings.{names_of}
+use Rattle.sk_codegen.proofs.Agreement.{Agree, AreCallees, IsBound, IsFound, name_bound, name_unbound, callee_found}
 
 pub number-in_range : (ty : Ty) (number : ℤ) → fits_type ty number ≡ true → InRange ty number
 number-in_range Int (pos n) e = record { sfits = omega (arith, leb-true n 2147483647 e) }
 number-in_range Int (negsuc n) e = record { sfits = omega (arith, leb-true n 2147483647 (and_left _ true e)) }
 number-in_range Long (pos n) e = record { sfits = omega (arith, leb-true n 9223372036854775807 e) }
 number-in_range Long (negsuc n) e = record { sfits = omega (arith, leb-true n 9223372036854775807 (and_left _ true e)) }
-
-pub takes_some : (o : Option ℕ) (given : ℕ) → takes o given ≡ true → (count : ℕ) × (o ≡ Some count) × (count ≡ given)
-takes_some (Some count) given e = (count, refl, search rules)
-takes_some None given e = let no : ⊥ = cc in absurd no
 
 -- where an expression stands: the scopes of the scheme and of evaluation, and the slots
 pub record Situation : Type 0 where
@@ -200,16 +187,7 @@ module _ (routine : Routine) (counts : Counts) (functions : List (List ℕ × Kn
   abbrev Parts : Type 0
   Parts = List ((e : Expr) × IsRun e)
 
-  abbrev exprs_of : Parts → List Expr
-  exprs_of ys = map (λ y. y.0) ys
-
-  abbrev parts_plain : Parts → List (List ℕ) → Bool
-  parts_plain ys names = list_all (λ part. part counts names) (map is_plain_expression (exprs_of ys))
-
-  abbrev codes_at : Parts → List Compiled
-  codes_at ys = map compiled_of (exprs_of ys)
-
-  arguments_compiled : (ys : Parts) (kinds : List ParamKind) (s : Situation) → parts_plain ys (names_of s.scope) ≡ true → length kinds ≡ length ys
+  arguments_compiled : (ys : Parts) (kinds : List ParamKind) (s : Situation) → parts_plain counts ys (names_of s.scope) ≡ true → length kinds ≡ length ys
       → (at : ℕ) (stack : List ℤ) (turns : ℕ) → HasAt routine.instrs at (arguments_code kinds (codes_at ys) (around_of s) at)
       → GivesMany routine kinds s.slots at stack turns (at + length (arguments_code kinds (codes_at ys) (around_of s) at)) (values_of (map meaning_of (exprs_of ys)) (names_at s) turns)
   arguments_compiled [] [] s plain n at stack turns has = (refl, omega arith, leads_same routine at (at + 0) stack s.slots turns (omega arith))
@@ -218,8 +196,8 @@ module _ (routine : Routine) (counts : Counts) (functions : List (List ℕ × Kn
   arguments_compiled (y ∷ ys) (kind ∷ kinds) s plain n at stack turns has =
       let names = names_of s.scope in
       let a = around_of s in
-      let first_plain : is_plain_expression y.0 counts names ≡ true = and_left (is_plain_expression y.0 counts names) (parts_plain ys names) plain in
-      let rest_plain : parts_plain ys names ≡ true = and_right (is_plain_expression y.0 counts names) (parts_plain ys names) plain in
+      let first_plain : is_plain_expression y.0 counts names ≡ true = and_left (is_plain_expression y.0 counts names) (parts_plain counts ys names) plain in
+      let rest_plain : parts_plain counts ys names ≡ true = and_right (is_plain_expression y.0 counts names) (parts_plain counts ys names) plain in
       let c = compiled_of y.0 in
       let first : List Instr = wanted_code (kind_type kind) c a at in
       let at1 : ℕ = at + length first in
@@ -233,28 +211,21 @@ module _ (routine : Routine) (counts : Counts) (functions : List (List ℕ × Kn
       (λ v t. subst (λ m. GivesMany routine kinds s.slots at1 (v ∷ stack) t m (values_of (map meaning_of (exprs_of ys)) (names_at s) t)) e
       (arguments_compiled ys kinds s rest_plain (omega (arith, n)) at1 (v ∷ stack) t (has_back routine.instrs at first rest has)))
 
-  abbrev plains : Parts → List (Counts → List (List ℕ) → Bool)
-  plains ys = map is_plain_expression (exprs_of ys)
-
-  plains_length : (ys : Parts) → length (plains ys) ≡ length ys
-  plains_length [] = refl
-  plains_length (y ∷ ys) = ap suc (plains_length ys)
-
   -- the call is plain
   abbrev IsCall : List ℕ → Parts → Situation → Type 0
-  IsCall name ys s = (not (is_among name (names_of s.scope)) && takes (bound_to name counts) (length (plains ys)) && parts_plain ys (names_of s.scope)) ≡ true
+  IsCall name ys s = (not (is_among name (names_of s.scope)) && takes (bound_to name counts) (length (plains ys)) && parts_plain counts ys (names_of s.scope)) ≡ true
 
   apply_compiled : AreCallees routine.callees counts functions callables → (name : List ℕ) (ys : Parts)
       → IsCompiled (meaning_step (layer.Apply name (map meaning_of (exprs_of ys)))) (compiled_step (layer.Apply name (codes_at ys))) (plain_expression_step (layer.Apply name (map is_plain_expression (exprs_of ys))))
   apply_compiled callees name ys = record { ty = types; gives = computes }
     where
       head : (s : Situation) → IsCall name ys s → (not (is_among name (names_of s.scope)) && takes (bound_to name counts) (length (plains ys))) ≡ true
-      head s plain = and_left (not (is_among name (names_of s.scope)) && takes (bound_to name counts) (length (plains ys))) (parts_plain ys (names_of s.scope)) plain
+      head s plain = and_left (not (is_among name (names_of s.scope)) && takes (bound_to name counts) (length (plains ys))) (parts_plain counts ys (names_of s.scope)) plain
 
       unbound : (s : Situation) → IsCall name ys s → (bound_to name s.scope ≡ None) × (bound_to name s.values ≡ None)
       unbound s plain =
           name_unbound name s.scope s.values s.slots s.bound s.agree
-          (not_true (is_among name (names_of s.scope)) (and_left (not (is_among name (names_of s.scope))) (takes (bound_to name counts) (length (plains ys))) (head s plain)))
+          (not-true (is_among name (names_of s.scope)) (and_left (not (is_among name (names_of s.scope))) (takes (bound_to name counts) (length (plains ys))) (head s plain)))
 
       counted : (s : Situation) → IsCall name ys s → (count : ℕ) × (bound_to name counts ≡ Some count) × (count ≡ length (plains ys))
       counted s plain = takes_some (bound_to name counts) (length (plains ys)) (and_right (not (is_among name (names_of s.scope))) (takes (bound_to name counts) (length (plains ys))) (head s plain))
@@ -293,7 +264,7 @@ module _ (routine : Routine) (counts : Counts) (functions : List (List ℕ × Kn
           let n : length f.known.kinds ≡ length ys =
           f.same.count_is ∙ c.2 ∙ plains_length ys in
           let code : List Instr = arguments_code f.known.kinds (codes_at ys) (around_of s) at in
-          let rest_plain = and_right (not (is_among name (names_of s.scope)) && takes (bound_to name counts) (length (plains ys))) (parts_plain ys (names_of s.scope)) plain in
+          let rest_plain = and_right (not (is_among name (names_of s.scope)) && takes (bound_to name counts) (length (plains ys))) (parts_plain counts ys (names_of s.scope)) plain in
           let g : HasAt routine.instrs at (code ++ instr.Call f.known.number ∷ []) → Gives routine f.known.ret s.slots at stack turns (at + length (code ++ instr.Call f.known.number ∷ [])) stack
           (then_do values (λ values turns. f.callable.call (map Value values) turns)) =
           λ has. apply_gives routine c.0 f.known f.callable f.same s.slots at stack turns code values has

@@ -1,6 +1,7 @@
 -- What the code of a statement does, and how such code is joined.
-use Rattle.std.proofs.Common.{◌≡◌, ℕ, zero, suc, ◌<◌, ◌≤◌, List, [], ◌∷◌, length, ℤ, Some, refl, ap, ◌∙◌, arith, length-set, rules}
-use Rattle.std.specs.Prelude.{slice_get, slice_set, Result, Ok, Err, nat_lt, if◌then◌else◌, true, false, Bool}
+use Rattle.std.proofs.Common.{◌≡◌, ℕ, zero, suc, ◌<◌, ◌≤◌, List, [], ◌∷◌, length, ℤ, Some, refl, ap, ◌∙◌, arith, length-set}
+use Rattle.std.specs.Prelude.{slice_get, slice_set, Result, Ok, Err, if◌then◌else◌, true, false, Bool}
+use Rattle.std.proofs.lemmas.Bool.{lt-ltb}
 use Rattle.sk_base.specs.declared.number.Ty.{Ty}
 use Rattle.sk_base.specs.declared.number.Trap.{Trap}
 use Rattle.sk_base.specs.declared.number.Trap.TheVariants.{Turns}
@@ -13,9 +14,6 @@ use Rattle.sk_isa.specs.declared.code.Instr.TheVariants as instr
 use Rattle.sk_codegen.proofs.Runs.{stands, Finishes, Leads, leads_on, step, last_step, leads_same, Gives}
 use Rattle.sk_codegen.proofs.ExpressionNodes.{zero_holds, zero_fails}
 use Rattle.sk_codegen.proofs.Agreement.{Agree, agree_wider}
-
-nat_lt-true : (n m : ℕ) → n < m → nat_lt n m ≡ true
-nat_lt-true n m below = search rules
 
 module _ (routine : Routine) (ret : Ty) where
   -- the run comes to an address with an empty stack, with other values in the slots, and no more turns
@@ -124,7 +122,7 @@ module _ (routine : Routine) (ret : Ty) where
       → Runs slots at [] turns to scope bound (then_do o (λ v s. Ok (Going (values v), s)))
   runs_store ty slots at turns at1 to slot scope bound (Ok done) values g here e within agree =
       let w : ℤ = wrapped ty done.0 in
-      let does = ap (λ (b : Bool). if b then Goes (stands (suc at1) [] (slice_set slots slot w) done.1) else Stuck) (nat_lt-true slot (length slots) within) in
+      let does = ap (λ (b : Bool). if b then Goes (stands (suc at1) [] (slice_set slots slot w) done.1) else Stuck) (lt-ltb slot (length slots) within) in
       let l = step routine (instr.Store slot) (stands at1 (w ∷ []) slots done.1) (stands (suc at1) [] (slice_set slots slot w) done.1) here does in
       record {
         after = slice_set slots slot w;

@@ -2,7 +2,7 @@
 use Rattle.std.proofs.Common.{◌≡◌, ℕ, suc, ◌+◌, ◌-◌, List, [], ◌∷◌, ◌++◌, length, map, replicate, ℤ, pos, Some, refl, sym, ap, ◌∙◌, subst, arith, append_assoc, length-append}
 use Rattle.std.proofs.lemmas.List.{length-map, length-replicate}
 use mathlib.Core.List.{reverse_aux}
-use Rattle.std.specs.Prelude.{slice_get, Result, Ok, Err, true, ◌&&◌}
+use Rattle.std.specs.Prelude.{slice_get, Result, Ok, Err, true}
 use Rattle.std.specs.List.{list_all, zip}
 use Rattle.sk_base.specs.declared.number.Ty.{Ty}
 use Rattle.sk_base.specs.declared.number.Trap.{Trap}
@@ -18,10 +18,11 @@ use Rattle.sk_isa.specs.Scheme.{Slot, Known, Within, Standing, parameters_from, 
 use Rattle.sk_isa.specs.Soundness.{SuitParams, SuitsParam, is_scalar}
 use Rattle.sk_codegen.specs.Plain.{Counts, Names, IsPlainFunction, all_behind, judged_of}
 use Rattle.sk_codegen.proofs.Runs.{has_all, stands, Finishes}
-use Rattle.sk_codegen.proofs.Agreement.{Agree, AreCallees, IsLocal, IsCallValue, names_of, agree_wider, fitted}
-use Rattle.sk_codegen.proofs.ExpressionRuns.{and_left, and_right}
+use Rattle.sk_codegen.proofs.Agreement.{Agree, AreCallees, IsLocal, IsCallValue, agree_wider, fitted}
+use Rattle.sk_codegen.proofs.Truths.{and_left, and_right, is_some_is}
+use Rattle.sk_codegen.proofs.Lists.{slice_get-seam}
+use Rattle.sk_codegen.proofs.Parameters.{params_names}
 use Rattle.sk_codegen.proofs.Flows.{Runs, RunsFlow}
-use Rattle.sk_codegen.proofs.StatementNodes.{is_some_is}
 use Rattle.sk_codegen.proofs.StatementRuns.{statements_follow}
 use Rattle.sk_codegen.proofs.Returns.{GoesNoFurther, IsOver, statements_stop}
 
@@ -50,10 +51,6 @@ bound_pair pair = (pair.0.name, argument_binding pair.0.kind pair.1)
 abbrev Holds : List ℤ → ℕ → List Argument → Type 0
 Holds slots number [] = Unit {0}
 Holds slots number (argument ∷ arguments) = (slice_get slots number ≡ Some (number_in argument)) × Holds slots (suc number) arguments
-
-slice_get-seam : (a : List ℤ) (i : ℤ) (b : List ℤ) → slice_get (a ++ i ∷ b) (length a) ≡ Some i
-slice_get-seam [] i b = refl
-slice_get-seam (j ∷ a) i b = slice_get-seam a i b
 
 holds_behind : (arguments : List Argument) (before rest : List ℤ) → Holds (before ++ (map number_in arguments ++ rest)) (length before) arguments
 holds_behind [] before rest = tt
@@ -91,10 +88,6 @@ params_agree (param ∷ params) (argument ∷ arguments) number scope values slo
     subst (λ n. Agree (parameters_from number (param ∷ params) scope) (reverse_aux (map bound_pair (zip (param ∷ params) (argument ∷ arguments))) values) slots n) e
     (params_agree params arguments (suc number) ((param.name, record { number = number; kind = param.kind }) ∷ scope) (bound_pair (param, argument) ∷ values) slots
     (and_right (is_scalar param.kind) rest scalars) suits.1 held.1 (one_local param argument number slots is held.0, agree))
-
-params_names : (params : List Param) (number : ℕ) (scope : List (List ℕ × Slot)) → reverse_aux (map (λ (param : Param). param.name) params) (names_of scope) ≡ names_of (parameters_from number params scope)
-params_names [] number scope = refl
-params_names (param ∷ params) number scope = params_names params (suc number) ((param.name, record { number = number; kind = param.kind }) ∷ scope)
 
 module _ (routine : Routine) (ret : Ty) where
   finish_flow : (slots : List ℤ) (turns to : ℕ) (scope : List (List ℕ × Slot)) (bound : ℕ) (flow : Flow) (left : ℕ) → RunsFlow routine ret slots 0 [] turns to scope bound flow left → IsOver flow
@@ -164,9 +157,3 @@ fitted_suit (Scalar ty ∷ kinds) (value ∷ values) scalars n = (wrapped-in_ran
 fitted_suit (Index dimension ∷ kinds) (value ∷ values) scalars n = let no : ⊥ = cc in absurd no
 fitted_suit (Proxy dimension ty ∷ kinds) (value ∷ values) scalars n = let no : ⊥ = cc in absurd no
 fitted_suit (Region dimension ty ∷ kinds) (value ∷ values) scalars n = let no : ⊥ = cc in absurd no
-
-pub scalar_kinds : (params : List Param) → list_all (λ param. is_scalar param.kind) params ≡ true → list_all is_scalar (kinds_of params) ≡ true
-scalar_kinds [] e = refl
-scalar_kinds (param ∷ params) e =
-    let rest = list_all (λ (param : Param). is_scalar param.kind) params in
-    ap (λ b. b && list_all is_scalar (kinds_of params)) (and_left (is_scalar param.kind) rest e) ∙ scalar_kinds params (and_right (is_scalar param.kind) rest e)

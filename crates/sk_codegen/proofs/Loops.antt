@@ -1,6 +1,6 @@
 -- What the code of loops does, from what the code of their parts does.
 use Rattle.std.proofs.Common.{◌≡◌, ℕ, zero, suc, ◌+◌, ◌≤◌, List, [], ◌∷◌, ◌++◌, length, ℤ, Some, refl, sym, ap, subst, arith, length-append}
-use Rattle.std.specs.Prelude.{slice_get, Result, Ok, Err, if◌then◌else◌, true}
+use Rattle.std.specs.Prelude.{slice_get, Result, Ok, Err, if◌then◌else◌}
 use Rattle.sk_base.specs.declared.number.Trap.{Trap}
 use Rattle.sk_base.specs.declared.number.Trap.TheVariants.{Turns}
 use Rattle.sk_tree.specs.Evaluation.{Callables, Scope, Flow, Going, Doing, and_then, in_block, looped, value_in}
@@ -10,22 +10,16 @@ use Rattle.sk_isa.specs.Coded.{Routine, turning}
 use Rattle.sk_isa.specs.Scheme.{Slot, compiled_of, Within, Standing, Emitted, Emitting, around_in, block_emitted, loop_emitted}
 use Rattle.sk_isa.specs.declared.code.Instr.{Instr}
 use Rattle.sk_isa.specs.declared.code.Instr.TheVariants as instr
-use Rattle.sk_codegen.specs.Plain.{Counts, Names, is_plain_expression, Judged, block_is_plain}
+use Rattle.sk_codegen.specs.Plain.{Counts, Judged}
 use Rattle.sk_codegen.proofs.Runs.{HasAt, has_front, has_back, stands, last_step}
 use Rattle.sk_codegen.proofs.ExpressionNodes.{jump_leads}
-use Rattle.sk_codegen.proofs.Agreement.{Agree, names_of, agree_wider, agree_lower}
+use Rattle.sk_codegen.proofs.Bindings.{names_of}
+use Rattle.sk_codegen.proofs.Agreement.{Agree, agree_wider, agree_lower}
 use Rattle.sk_codegen.proofs.ExpressionRuns.{IsRun}
 use Rattle.sk_codegen.proofs.Flows.{Runs, runs_after, runs_then, runs_value, runs_branch, runs_nothing, runs_turn}
 use Rattle.sk_codegen.proofs.StatementNodes.{expression_gives}
-use Rattle.sk_codegen.proofs.Choices.{IsBlock, IsFollowing, plain_block}
-
--- a loop's parts are plain where it stands
-pub record IsLoop (counts : Counts) (names : Names) (test : Expr) (js : List Judged) (step : Judged) : Type 0 where
-  pub test_plain : is_plain_expression test counts names ≡ true
-  pub body_plain : block_is_plain js counts names ≡ true
-  pub after : Names
-  pub step_plain : step.behind counts names ≡ Some after
-  pub assigns : step.assigns ≡ true
+use Rattle.sk_codegen.proofs.PlainParts.{IsLoop, plain_block}
+use Rattle.sk_codegen.proofs.Choices.{IsBlock, IsFollowing}
 
 module _ (routine : Routine) (counts : Counts) (within : Within) (callables : Callables) (test : Expr) (ds : List Doing) (es : List Emitting) (js : List Judged) (step : Doing) (emits : Emitting) (judged : Judged) where
   -- the parts of a loop's code
@@ -119,7 +113,7 @@ module _ (routine : Routine) (counts : Counts) (within : Within) (callables : Ca
         let l = loop_slots f g st in
         let names = names_of st.scope in
         runs_then routine within.ret slots (body_stands st).at [] left (step_stands st).at end_at st.scope st.scope (length (body_at st).slots) bound (in_block ds callables values left) _
-        (f.runs (body_stands st) values slots left names (plain_block routine counts within callables js names fine.body_plain) agree (omega (arith, room, l.1)) has_body)
+        (f.runs (body_stands st) values slots left names (plain_block counts js names fine.body_plain) agree (omega (arith, room, l.1)) has_body)
         (λ values2 slots2 left2 fewer2 size2 agree2.
         let same = g.keeps.assigns fine.assigns (step_stands st) in
         runs_then routine within.ret slots2 (step_stands st).at [] left2 ((step_stands st).at + length (step_at st).code) end_at st.scope st.scope bound bound (step callables values2 left2) _

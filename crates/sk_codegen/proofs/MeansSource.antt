@@ -1,6 +1,5 @@
 -- The functions of a plain program have the values of their sources.
 use Rattle.std.proofs.Common.{◌≡◌, ℕ, zero, suc, ◌+◌, List, [], ◌∷◌, ◌++◌, length, map, take, ℤ, Some, refl, sym, ap, ◌∙◌, subst, arith, length-append}
-use Rattle.std.proofs.lemmas.List.{length-map}
 use Rattle.std.specs.Prelude.{slice_get, Result}
 use Rattle.sk_base.specs.declared.number.Trap.{Trap}
 use Rattle.sk_tree.specs.Evaluation.{Argument, Value, Callables, callable_of, callables_after, callables_of, apply_of}
@@ -18,21 +17,11 @@ use Rattle.sk_isa.proofs.Callees.{are_ready, function_of-code}
 use Rattle.sk_codegen.specs.Means.{MeansSource}
 use Rattle.sk_codegen.specs.SourceRuns.{RunsAsSource}
 use Rattle.sk_codegen.specs.Plain.{Counts, IsPlain, IsPlainFunction, ArePlain}
+use Rattle.sk_codegen.proofs.Lists.{slice_get-front, slice_get-at}
 use Rattle.sk_codegen.proofs.Runs.{Finishes}
 use Rattle.sk_codegen.proofs.Agreement.{AreCallees, IsCallee, IsCallValue, fitted}
-use Rattle.sk_codegen.proofs.FunctionRuns.{function_runs, apply_fitted, fitted_suit, scalar_kinds}
-
--- what a list holds is held by a longer one
-front : {A : Type 0} (list more : List A) (k : ℕ) (x : A) → slice_get list k ≡ Some x → slice_get (list ++ more) k ≡ Some x
-front [] more k x e = let no : ⊥ = cc in absurd no
-front (y ∷ list) more zero x e = e
-front (y ∷ list) more (suc k) x e = front list more k x e
-
-last : {A : Type 0} (list : List A) (k : ℕ) (x : A) → length list ≡ k → slice_get (list ++ x ∷ []) k ≡ Some x
-last [] zero x h = refl
-last [] (suc k) x h = absurd (omega arith)
-last (y ∷ list) zero x h = absurd (omega arith)
-last (y ∷ list) (suc k) x h = last list k x (omega arith)
+use Rattle.sk_codegen.proofs.Parameters.{kinds-length, scalar_kinds}
+use Rattle.sk_codegen.proofs.FunctionRuns.{function_runs, apply_fitted, fitted_suit}
 
 callees-none : (signatures : List Signature) (codes : List Code) → callees_below signatures codes 0 ≡ []
 unfolding callees_below
@@ -54,7 +43,7 @@ more_callees callees more (c ∷ cs) (k ∷ ks) (f ∷ fs) h = (
     count_is = h.2.count_is;
     ret = h.2.ret;
     callee = h.2.callee;
-    there = front callees more k.1.number h.2.callee h.2.there;
+    there = slice_get-front callees more k.1.number h.2.callee h.2.there;
     takes = h.2.takes;
     call = h.2.call;
     gives = h.2.gives;
@@ -92,19 +81,16 @@ module _ (object : Object) (sound : IsSound object) where
       value_by_steps object.signatures number (signature_of known function) (code_of known function) (below number) arguments turns
       (are_ready object sound number (signature_of known function) (code_of known function) arguments is_own is_code suits) run.steps (apply_of callables function arguments turns) run.outcome
 
-  kinds-length : (function : Function) → length (kinds_of function.params) ≡ length function.params
-  kinds-length function = length-map function.params (λ param. param.kind)
-
   -- a function, for those behind it
   one_callee : (number : ℕ) (counts : Counts) (known : List (List ℕ × Known)) (callables : Callables) (function : Function) → length (below number) ≡ number
       → slice_get object.signatures number ≡ Some (signature_of known function) → slice_get object.functions number ≡ Some (code_of known function)
       → IsPlainFunction counts function → AreCallees (below number) counts known callables
       → IsCallee (below number ++ callee_of (below number) (signature_of known function) (code_of known function) ∷ []) (length function.params) (known_of number function) (callable_of callables function)
   one_callee number counts known callables function size is_own is_code plain are = record {
-    count_is = kinds-length function;
+    count_is = kinds-length function.params;
     ret = refl;
     callee = callee_of (below number) (signature_of known function) (code_of known function);
-    there = last (below number) number (callee_of (below number) (signature_of known function) (code_of known function)) size;
+    there = slice_get-at (below number) (callee_of (below number) (signature_of known function) (code_of known function)) [] number size;
     takes = refl;
     call = λ values turns n.
         value_is number counts known callables function (map Value (fitted (kinds_of function.params) values)) turns is_own is_code plain are
@@ -171,7 +157,7 @@ program_runs program plain sound n function e arguments suits turns =
     let from : AreFrom object sound 0 [] functions = record {
       codes = λ k code h. let z : k ≡ 0 + k = omega arith in subst (λ m. slice_get object.functions m ≡ Some code) z h;
       signatures = λ k own h. let z : k ≡ 0 + k = omega arith in
-          subst (λ m. slice_get object.signatures m ≡ Some own) z (front (signatures_of functions) (main_signature ∷ []) k own h);
+          subst (λ m. slice_get object.signatures m ≡ Some own) z (slice_get-front (signatures_of functions) (main_signature ∷ []) k own h);
     } in
     let none = callees-none object.signatures object.functions in
     let z : 0 + n ≡ n = omega arith in

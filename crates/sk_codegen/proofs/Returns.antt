@@ -7,10 +7,11 @@ use Rattle.sk_tree.specs.Evaluation.{Callables, Scope, Flow, Going, Returned, Do
 use Rattle.sk_tree.specs.Expressions.{holds, then_do}
 use Rattle.sk_tree.specs.StatementLaws.{doing_what, doing-roll}
 use Rattle.sk_tree.specs.declared.tree.Statement.{Statement, Statement-F, roll-Statement, map-Statement, ind-Statement, fold-roll-Statement}
-use Rattle.sk_tree.specs.declared.tree.What.{What, What-F, roll-What, map-What, fold-What, fold-roll-What}
+use Rattle.sk_tree.specs.declared.tree.What.{What, What-F, roll-What, map-What, fold-roll-What}
 use Rattle.sk_tree.specs.declared.tree.What.TheOpen as what
 use Rattle.sk_codegen.specs.Plain.{returns_of, returns_step}
-use Rattle.sk_codegen.proofs.ExpressionRuns.{and_left, and_right}
+use Rattle.sk_codegen.proofs.Truths.{and_left, and_right}
+use Rattle.sk_codegen.proofs.Parts.{returns_what, statements_of, returning, plain_level}
 
 abbrev pub IsOver : Flow → Type 0
 IsOver (Going scope) = ⊥
@@ -51,9 +52,6 @@ never_stops doing = record { by = λ e callables scope turns. let no : ⊥ = cc 
 abbrev StopsOf : Statement → Type 0
 StopsOf s = Stops (doing_of s) (returns_of s)
 
-abbrev returns_what : What → Bool
-returns_what = fold-What Bool Bool returns_step (λ statement. statement.what)
-
 abbrev StopsWhat : What → Type 0
 StopsWhat w = Stops (doing_what w) (returns_what w)
 
@@ -62,9 +60,6 @@ Whats = (w : What) × StopsWhat w
 
 abbrev Stopping : Type 0
 Stopping = (s : Statement) × StopsOf s
-
-abbrev statements_of : List Stopping → List Statement
-statements_of ys = map (λ y. y.0) ys
 
 pair_stops : (first rest : Doing) (b c : Bool) → Stops first b → Stops rest c
     → Stops (λ callables scope turns. and_then (first callables scope turns) (λ scope turns. rest callables scope turns)) (b || c)
@@ -84,9 +79,6 @@ either_over : (b : Bool) (one other : List Doing) (callables : Callables) (scope
 either_over true one other callables scope turns f g = f
 either_over false one other callables scope turns f g = g
 
-abbrev plain_level : What-F Whats Stopping → What-F What Statement
-plain_level y = map-What Whats Stopping What Statement (λ w. w.0) (λ s. s.0) y
-
 level_stops : (y : What-F Whats Stopping) → Stops (doing_step (map-What What Statement Doing Doing doing_what doing_of (plain_level y))) (returns_step (map-What What Statement Bool Bool returns_what returns_of (plain_level y)))
 level_stops (what.Declare ty name expr) = never_stops _
 level_stops (what.Assign name expr) = never_stops _
@@ -99,10 +91,9 @@ level_stops (what.Call name arguments) = never_stops _
 level_stops (what.Print items) = never_stops _
 level_stops (what.If test ys zs) = record {
   by = λ e callables scope turns.
-      let any : List Stopping → Bool = λ l. list_any (λ part. part) (map returns_of (statements_of l)) in
       value_over (value_in test callables scope turns) _ (λ value turns.
       either_over (holds value) (map doing_of (statements_of ys)) (map doing_of (statements_of zs)) callables scope turns
-      ((block_stops ys).by (and_left (any ys) (any zs) e) callables scope turns) ((block_stops zs).by (and_right (any ys) (any zs) e) callables scope turns));
+      ((block_stops ys).by (and_left (returning ys) (returning zs) e) callables scope turns) ((block_stops zs).by (and_right (returning ys) (returning zs) e) callables scope turns));
 }
 level_stops (what.For first test step ys) = never_stops _
 level_stops (what.Return expr) = record { by = λ e callables scope turns. value_over (value_in expr callables scope turns) _ (λ value turns. tt) }

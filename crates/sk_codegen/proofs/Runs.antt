@@ -1,5 +1,5 @@
 -- Runs of the machine: what code leads to that stands in the routine.
-use Rattle.std.proofs.Common.{◌≡◌, ℕ, suc, ◌+◌, ◌≤◌, List, [], ◌∷◌, ◌++◌, length, ℤ, Option, Some, None, refl, sym, ap, ◌∙◌, subst, arith, append_assoc, length-append}
+use Rattle.std.proofs.Common.{◌≡◌, ℕ, suc, ◌+◌, ◌≤◌, List, [], ◌∷◌, ◌++◌, length, ℤ, Option, Some, None, sym, ap, ◌∙◌, subst, arith, append_assoc, length-append}
 use Rattle.std.specs.Prelude.{slice_get, Result, Ok, Err}
 use Rattle.sk_base.specs.declared.number.Ty.{Ty}
 use Rattle.sk_base.specs.declared.number.Trap.{Trap}
@@ -7,6 +7,7 @@ use Rattle.sk_base.specs.Arithmetic.{InRange}
 use Rattle.sk_tree.specs.Expressions.{then_do}
 use Rattle.sk_isa.specs.Coded.{Point, Routine, Next, Goes, Ends, next_of, outcome_of, Outcome, Ended, Lost, followed}
 use Rattle.sk_isa.specs.declared.code.Instr.{Instr}
+use Rattle.sk_codegen.proofs.Lists.{slice_get-seam}
 
 -- the instructions stand in the code at this address
 abbrev pub HasAt : List Instr → ℕ → List Instr → Type 0
@@ -26,10 +27,6 @@ has_back code at (i ∷ a) b h =
 -- what stands behind one instruction
 pub has_rest : (code : List Instr) (at to : ℕ) (i : Instr) (is : List Instr) → suc at ≡ to → HasAt code at (i ∷ is) → HasAt code to is
 has_rest code at to i is e h = subst (λ n. HasAt code n is) e h.1
-
-slice_get-seam : (a : List Instr) (i : Instr) (b : List Instr) → slice_get (a ++ i ∷ b) (length a) ≡ Some i
-slice_get-seam [] i b = refl
-slice_get-seam (j ∷ a) i b = slice_get-seam a i b
 
 has_behind : (is before : List Instr) → HasAt (before ++ is) (length before) is
 has_behind [] before = tt

@@ -1,25 +1,18 @@
 -- The code of plain statements is sound.
-use Rattle.std.proofs.Common.{◌≡◌, ℕ, List, [], ◌∷◌, map, refl, sym, subst}
-use Rattle.std.specs.Prelude.{true, false, Bool, ◌&&◌}
+use Rattle.std.proofs.Common.{◌≡◌, ℕ, List, [], ◌∷◌, map, sym, subst}
+use Rattle.std.specs.Prelude.{false, Bool}
 use Rattle.std.specs.List.{list_any}
 use Rattle.sk_tree.specs.declared.tree.Statement.{Statement, Statement-F, roll-Statement, map-Statement, ind-Statement, fold-roll-Statement}
-use Rattle.sk_tree.specs.declared.tree.What.{What, What-F, roll-What, map-What, fold-What, fold-roll-What}
+use Rattle.sk_tree.specs.declared.tree.What.{What, What-F, roll-What, map-What, fold-roll-What}
 use Rattle.sk_tree.specs.declared.tree.What.TheOpen as what
 use Rattle.sk_isa.specs.Scheme.{Within, Emitting, all_emitted, emitting_of, emitting_step}
 use Rattle.sk_isa.specs.SchemeLaws.{emitting_what, emitting-roll}
 use Rattle.sk_isa.specs.Soundness.{Named}
 use Rattle.sk_codegen.specs.Plain.{Counts, Judged, judged_of, judged_step, all_behind, returns_of, returns_step}
-use Rattle.sk_codegen.proofs.StatementRuns.{judged_what}
+use Rattle.sk_codegen.proofs.Truths.{never_both}
+use Rattle.sk_codegen.proofs.Parts.{judged_what, returns_what, statements_of, emittings, judgeds, returning, plain_level}
 use Rattle.sk_codegen.proofs.SoundScopes.{AreCallees}
 use Rattle.sk_codegen.proofs.SoundStatements.{IsStatement, IsBlock, declare_statement, assign_statement, return_statement, never_statement, none_statement, pair_statement, block_statement, if_statement, if_else_statement, for_statement}
-
--- whether a statement returns, apart from its line
-abbrev returns_what : What → Bool
-returns_what = fold-What Bool Bool returns_step (λ statement. statement.what)
-
-never_both : (b : Bool) → false ≡ (b && false)
-never_both true = refl
-never_both false = refl
 
 module _ (named : Named) (depth : ℕ) (counts : Counts) (within : Within) (callees : AreCallees named.signatures named.function counts within.functions) (ret_is : within.ret ≡ named.own.ret) where
   abbrev Is : Emitting → Judged → Bool → Type 0
@@ -37,19 +30,6 @@ module _ (named : Named) (depth : ℕ) (counts : Counts) (within : Within) (call
   abbrev Statements : Type 0
   Statements = (s : Statement) × IsSoundStatement s
 
-  abbrev statements_of : List Statements → List Statement
-  statements_of ys = map (λ y. y.0) ys
-
-  abbrev emittings : List Statements → List Emitting
-  emittings ys = map emitting_of (statements_of ys)
-
-  abbrev judgeds : List Statements → List Judged
-  judgeds ys = map judged_of (statements_of ys)
-
-  -- one of them returns
-  abbrev returning : List Statements → Bool
-  returning ys = list_any (λ part. part) (map returns_of (statements_of ys))
-
   sequence_sound : (ys : List Statements)
       → Is (all_emitted (map emitting_of (statements_of ys))) (record { behind = all_behind (map judged_of (statements_of ys)); assigns = false; declares = false })
       (list_any (λ part. part) (map returns_of (statements_of ys)))
@@ -61,9 +41,6 @@ module _ (named : Named) (depth : ℕ) (counts : Counts) (within : Within) (call
 
   block_sound : (ys : List Statements) → IsBlock named depth counts within callees ret_is (map emitting_of (statements_of ys)) (map judged_of (statements_of ys)) (list_any (λ part. part) (map returns_of (statements_of ys)))
   block_sound ys = block_statement named depth counts within callees ret_is (map emitting_of (statements_of ys)) (map judged_of (statements_of ys)) (list_any (λ part. part) (map returns_of (statements_of ys))) (sequence_sound ys)
-
-  abbrev plain_level : What-F Whats Statements → What-F What Statement
-  plain_level y = map-What Whats Statements What Statement (λ w. w.0) (λ s. s.0) y
 
   level_sound : (y : What-F Whats Statements)
       → Is (emitting_step (map-What What Statement Emitting Emitting emitting_what emitting_of (plain_level y)))

@@ -1,7 +1,6 @@
 -- The code of a plain expression is a sound piece of code, which leaves a value of the expression's type.
-use Rattle.std.proofs.Common.{◌≡◌, ℕ, suc, ◌+◌, ◌≤◌, List, [], ◌∷◌, ◌++◌, length, map, Option, Some, None, ℤ, refl, sym, ap, ◌∙◌, subst, arith}
+use Rattle.std.proofs.Common.{◌≡◌, ℕ, ◌+◌, ◌≤◌, List, [], ◌∷◌, ◌++◌, length, map, Option, Some, None, ℤ, sym, ◌∙◌, subst, arith}
 use Rattle.std.specs.Prelude.{true, false, Bool, not, ◌&&◌}
-use Rattle.std.specs.List.{list_all}
 use Rattle.sk_base.specs.declared.number.Op.{Op}
 use Rattle.sk_base.specs.declared.number.Ty.{Ty}
 use Rattle.sk_tree.specs.Bindings.{bound_to}
@@ -16,9 +15,12 @@ use Rattle.sk_isa.specs.SchemeLaws.{compiled-roll}
 use Rattle.sk_isa.specs.Soundness.{Named}
 use Rattle.sk_isa.specs.declared.code.Instr.{Instr}
 use Rattle.sk_codegen.specs.Plain.{Counts, Names, is_plain_expression, plain_expression_step, is_among, takes}
-use Rattle.sk_codegen.proofs.ExpressionRuns.{and_left, and_right, not_true, takes_some}
-use Rattle.sk_codegen.proofs.Agreement.{names_of}
-use Rattle.sk_codegen.proofs.SoundScopes.{InScope, name_bound, name_unbound, AreCallees, callee_found}
+use Rattle.std.proofs.lemmas.Bool.{not-true}
+use Rattle.sk_codegen.proofs.Truths.{and_left, and_right}
+use Rattle.sk_codegen.proofs.Bindings.{bound_to-none, names_of}
+use Rattle.sk_codegen.proofs.PlainParts.{takes_some}
+use Rattle.sk_codegen.proofs.Parts.{exprs_of, codes_at, plains, plains_length, parts_plain}
+use Rattle.sk_codegen.proofs.SoundScopes.{InScope, name_bound, AreCallees, callee_found}
 use Rattle.sk_codegen.proofs.SoundValues.{Piece, then_piece, nothing_piece, wider_top, number_piece, load_piece, prefix_piece, wanted_piece, binary_piece, call_piece, both_piece, either_piece, choice_piece, serves_left, serves_right, pushed, pushed-more}
 
 module _ (named : Named) (depth : ℕ) (counts : Counts) (functions : List (List ℕ × Known)) where
@@ -157,16 +159,7 @@ module _ (named : Named) (depth : ℕ) (counts : Counts) (functions : List (List
   abbrev Parts : Type 0
   Parts = List ((e : Expr) × IsSound e)
 
-  abbrev exprs_of : Parts → List Expr
-  exprs_of ys = map (λ y. y.0) ys
-
-  abbrev parts_plain : Parts → Names → Bool
-  parts_plain ys names = list_all (λ part. part counts names) (map is_plain_expression (exprs_of ys))
-
-  abbrev codes_at : Parts → List Compiled
-  codes_at ys = map compiled_of (exprs_of ys)
-
-  arguments_piece : (ys : Parts) (kinds : List ParamKind) (scope : List (List ℕ × Slot)) → Scoped scope → parts_plain ys (names_of scope) ≡ true → length kinds ≡ length ys
+  arguments_piece : (ys : Parts) (kinds : List ParamKind) (scope : List (List ℕ × Slot)) → Scoped scope → parts_plain counts ys (names_of scope) ≡ true → length kinds ≡ length ys
       → (at : ℕ) (types : List Ty) → length types + parts_depth (codes_at ys) ≤ depth
       → Piece named depth at (arguments_code kinds (codes_at ys) (around_of scope) at) (at + length (arguments_code kinds (codes_at ys) (around_of scope) at)) (Some types) (Some (pushed kinds types))
   arguments_piece [] [] scope s plain n at types low = nothing_piece named depth at (Some types)
@@ -175,8 +168,8 @@ module _ (named : Named) (depth : ℕ) (counts : Counts) (functions : List (List
   arguments_piece (y ∷ ys) (kind ∷ kinds) scope s plain n at types low =
       let names = names_of scope in
       let a = around_of scope in
-      let first_plain : is_plain_expression y.0 counts names ≡ true = and_left (is_plain_expression y.0 counts names) (parts_plain ys names) plain in
-      let rest_plain : parts_plain ys names ≡ true = and_right (is_plain_expression y.0 counts names) (parts_plain ys names) plain in
+      let first_plain : is_plain_expression y.0 counts names ≡ true = and_left (is_plain_expression y.0 counts names) (parts_plain counts ys names) plain in
+      let rest_plain : parts_plain counts ys names ≡ true = and_right (is_plain_expression y.0 counts names) (parts_plain counts ys names) plain in
       let c = compiled_of y.0 in
       let ty : Ty = kind_type kind in
       let first : List Instr = wanted_code ty c a at in
@@ -186,13 +179,6 @@ module _ (named : Named) (depth : ℕ) (counts : Counts) (functions : List (List
       let g = arguments_piece ys kinds scope s rest_plain (omega (arith, n)) mid (ty ∷ types) (omega (arith, low)) in
       subst (λ (l : List Ty). Piece named depth at (first ++ rest) (at + length (first ++ rest)) (Some types) (Some l)) (pushed-more kind kinds types)
       (then_piece named depth at mid (mid + length rest) first rest (Some types) (Some (ty ∷ types)) (Some (pushed kinds (ty ∷ types))) f g)
-
-  abbrev plains : Parts → List (Counts → Names → Bool)
-  plains ys = map is_plain_expression (exprs_of ys)
-
-  plains_length : (ys : Parts) → length (plains ys) ≡ length ys
-  plains_length [] = refl
-  plains_length (y ∷ ys) = ap suc (plains_length ys)
 
   -- each value stays on the stack
   parts_high : (ys : Parts) → length ys ≤ parts_depth (codes_at ys)
@@ -208,9 +194,9 @@ module _ (named : Named) (depth : ℕ) (counts : Counts) (functions : List (List
         let a = around_of scope in
         let test : Bool = not (is_among name names) in
         let taking : Bool = takes (bound_to name counts) (length (plains ys)) in
-        let head = and_left (test && taking) (parts_plain ys names) plain in
-        let rest_plain = and_right (test && taking) (parts_plain ys names) plain in
-        let unbound = name_unbound name scope (not_true (is_among name names) (and_left test taking head)) in
+        let head = and_left (test && taking) (parts_plain counts ys names) plain in
+        let rest_plain = and_right (test && taking) (parts_plain counts ys names) plain in
+        let unbound = bound_to-none name scope (not-true (is_among name names) (and_left test taking head)) in
         let c = takes_some (bound_to name counts) (length (plains ys)) (and_right test taking head) in
         let f = callee_found named.signatures named.function name c.0 counts functions callees c.1 in
         let n : length f.known.kinds ≡ length ys = f.callee.count_is ∙ c.2 ∙ plains_length ys in

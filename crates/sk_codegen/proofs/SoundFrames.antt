@@ -5,7 +5,9 @@ use Rattle.sk_base.specs.declared.number.Ty.TheVariants.{Int}
 use Rattle.sk_isa.specs.declared.code.Instr.{Instr}
 use Rattle.sk_isa.specs.declared.code.Instr.TheVariants as instr
 use Rattle.sk_isa.specs.Soundness.{Named, Types, left_by}
-use Rattle.sk_codegen.proofs.SoundPieces.{each_append, each_front, each_back, Serves, Exits, serves_exact, exits_exact, Fits, FineAt, fine_some, fine_zero, fine_jump, IsLow, all_one}
+use Rattle.sk_codegen.proofs.Lists.{all_one}
+use Rattle.sk_codegen.proofs.Each.{Each, each_append, each_front, each_back}
+use Rattle.sk_codegen.proofs.SoundPieces.{Serves, Exits, serves_exact, exits_exact, Fits, FineAt, fine_some, fine_zero, fine_jump, IsLow}
 
 module _ (named : Named) (depth : ℕ) where
   abbrev Is : Types → ℕ → Option (List Ty) → Type 0
@@ -116,6 +118,29 @@ module _ (named : Named) (depth : ℕ) where
       all_long : at + length ((first ++ instr.Zero to ∷ instr.Turn ∷ second) ++ last) ≡ r
       all_long = omega (arith, length-append (first ++ instr.Zero to ∷ instr.Turn ∷ second) last, code_long, h.long)
 
+  -- a test becomes 1 or 0; where it fails, the code comes to the last push
+  flag_fine : (chosen : Types) (at fails behind end : ℕ) (ty : Ty) (types : List Ty) → Each (Is chosen) at (Some (ty ∷ types) ∷ Some types ∷ Some (Int ∷ types) ∷ Some types ∷ [])
+      → fails ≡ at + 3 → behind ≡ end → end ≡ at + 4 → suc (length types) ≤ depth → Serves chosen end (Int ∷ types)
+      → Serves chosen fails types × Each (FineAt named depth chosen) at (instr.Zero fails ∷ instr.Push (pos 1) ∷ instr.Jump behind ∷ instr.Push (pos 0) ∷ [])
+  flag_fine chosen at fails behind end ty types has fails_is behind_is end_is low exits =
+      let fails_there : suc (suc (suc at)) ≡ fails = omega (arith, fails_is) in
+      let skips : Serves chosen fails types = subst (λ n. Serves chosen n types) fails_there (serves_exact chosen (suc (suc (suc at))) types has.1.1.1.0) in
+      let jumps : Serves chosen behind (Int ∷ types) = subst (λ n. Serves chosen n (Int ∷ types)) (sym behind_is) exits in
+      let last_there : end ≡ suc (suc (suc (suc at))) = omega (arith, end_is) in
+      let last : Serves chosen (suc (suc (suc (suc at)))) (Int ∷ types) = subst (λ n. Serves chosen n (Int ∷ types)) last_there exits in (
+        skips,
+        (
+          fine_zero named depth chosen at fails ty types has.0 low (serves_exact chosen (suc at) types has.1.0) skips,
+          (
+            fine_push chosen (suc at) (pos 1) types has.1.0 (omega (arith, low)) refl (serves_exact chosen (suc (suc at)) (Int ∷ types) has.1.1.0),
+            (
+              fine_jump named depth chosen (suc (suc at)) behind (Some (Int ∷ types)) has.1.1.0 low jumps,
+              (fine_push chosen (suc (suc (suc at))) (pos 0) types has.1.1.1.0 (omega (arith, low)) refl last, tt),
+            ),
+          ),
+        ),
+      )
+
   -- the right operand is evaluated only where the left one holds
   pub both_fits : (one other : List Instr) (at p q fails behind end : ℕ) (left right : Ty) (types : List Ty)
       → Fits named depth at one p (Some types) (Some (left ∷ types)) → Fits named depth (suc p) other q (Some types) (Some (right ∷ types))
@@ -132,24 +157,11 @@ module _ (named : Named) (depth : ℕ) where
         let has_second = each_back (Is chosen) at p f.choices (Some (left ∷ types) ∷ g.choices) f.size has_head in
         let two = g.fine chosen has_second.1 (serves_exact chosen q (right ∷ types) has_tail.0) in
         let first = f.fine chosen has_first (serves_exact chosen p (left ∷ types) has_second.0) in
-        let fails_there : suc (suc (suc q)) ≡ fails = omega (arith, fails_is) in
-        let skips : Serves chosen fails types = subst (λ n. Serves chosen n types) fails_there (serves_exact chosen (suc (suc (suc q))) types has_tail.1.1.1.0) in
-        let jumps : Serves chosen behind (Int ∷ types) = subst (λ n. Serves chosen n (Int ∷ types)) (sym behind_is) exits in
-        let last_there : end ≡ suc (suc (suc (suc q))) = omega (arith, end_is) in
-        let last : Serves chosen (suc (suc (suc (suc q)))) (Int ∷ types) = subst (λ n. Serves chosen n (Int ∷ types)) last_there exits in (
+        let flag = flag_fine chosen q fails behind end right types has_tail fails_is behind_is end_is low exits in (
           first.0,
           each_append (FineAt named depth chosen) at q (one ++ instr.Zero fails ∷ other) (instr.Zero fails ∷ instr.Push (pos 1) ∷ instr.Jump behind ∷ instr.Push (pos 0) ∷ []) code_long
               (each_append (FineAt named depth chosen) at p one (instr.Zero fails ∷ other) f.long first.1
-              (fine_zero named depth chosen p fails left types has_second.0 low two.0 skips, two.1)) (
-                fine_zero named depth chosen q fails right types has_tail.0 low (serves_exact chosen (suc q) types has_tail.1.0) skips,
-                (
-                  fine_push chosen (suc q) (pos 1) types has_tail.1.0 (omega (arith, low)) refl (serves_exact chosen (suc (suc q)) (Int ∷ types) has_tail.1.1.0),
-                  (
-                    fine_jump named depth chosen (suc (suc q)) behind (Some (Int ∷ types)) has_tail.1.1.0 low jumps,
-                    (fine_push chosen (suc (suc (suc q))) (pos 0) types has_tail.1.1.1.0 (omega (arith, low)) refl last, tt),
-                  ),
-                ),
-              ),
+              (fine_zero named depth chosen p fails left types has_second.0 low two.0 flag.0, two.1)) flag.1,
         );
   }
     where
@@ -176,11 +188,8 @@ module _ (named : Named) (depth : ℕ) where
         let has_second = each_back (Is chosen) at p f.choices (Some (left ∷ types) ∷ Some types ∷ Some (Int ∷ types) ∷ g.choices) f.size has_head in
         let two = g.fine chosen has_second.1.1.1 (serves_exact chosen q (right ∷ types) has_tail.0) in
         let first = f.fine chosen has_first (serves_exact chosen p (left ∷ types) has_second.0) in
-        let fails_there : suc (suc (suc q)) ≡ fails = omega (arith, fails_is) in
-        let skips : Serves chosen fails types = subst (λ n. Serves chosen n types) fails_there (serves_exact chosen (suc (suc (suc q))) types has_tail.1.1.1.0) in
+        let flag = flag_fine chosen q fails behind end right types has_tail fails_is behind_is end_is low exits in
         let jumps : Serves chosen behind (Int ∷ types) = subst (λ n. Serves chosen n (Int ∷ types)) (sym behind_is) exits in
-        let last_there : end ≡ suc (suc (suc (suc q))) = omega (arith, end_is) in
-        let last : Serves chosen (suc (suc (suc (suc q)))) (Int ∷ types) = subst (λ n. Serves chosen n (Int ∷ types)) last_there exits in
         let to_second : Serves chosen second types = subst (λ n. Serves chosen n types) (sym second_is) two.0 in (
           first.0,
           each_append (FineAt named depth chosen) at q (one ++ instr.Zero second ∷ instr.Push (pos 1) ∷ instr.Jump behind ∷ other) (instr.Zero fails ∷ instr.Push (pos 1) ∷ instr.Jump behind ∷ instr.Push (pos 0) ∷ []) code_long
@@ -190,16 +199,7 @@ module _ (named : Named) (depth : ℕ) where
                   fine_push chosen (suc p) (pos 1) types has_second.1.0 (omega (arith, low)) refl (serves_exact chosen (suc (suc p)) (Int ∷ types) has_second.1.1.0),
                   (fine_jump named depth chosen (suc (suc p)) behind (Some (Int ∷ types)) has_second.1.1.0 low jumps, two.1),
                 ),
-              )) (
-                fine_zero named depth chosen q fails right types has_tail.0 low (serves_exact chosen (suc q) types has_tail.1.0) skips,
-                (
-                  fine_push chosen (suc q) (pos 1) types has_tail.1.0 (omega (arith, low)) refl (serves_exact chosen (suc (suc q)) (Int ∷ types) has_tail.1.1.0),
-                  (
-                    fine_jump named depth chosen (suc (suc q)) behind (Some (Int ∷ types)) has_tail.1.1.0 low jumps,
-                    (fine_push chosen (suc (suc (suc q))) (pos 0) types has_tail.1.1.1.0 (omega (arith, low)) refl last, tt),
-                  ),
-                ),
-              ),
+              )) flag.1,
         );
   }
     where

@@ -1,6 +1,5 @@
 -- The code of a plain function is sound, and so is that of plain functions in text order.
-use Rattle.std.proofs.Common.{◌≡◌, ℕ, zero, suc, ◌+◌, ◌<◌, List, [], ◌∷◌, ◌++◌, length, map, reverse, IsSomeAnd, Option, Some, None, slice_get, refl, sym, ap, ◌∙◌, subst, arith, length-append, append_assoc, append-nil}
-use Rattle.std.proofs.lemmas.List.{reverse-append}
+use Rattle.std.proofs.Common.{◌≡◌, ℕ, zero, suc, ◌+◌, ◌<◌, List, [], ◌∷◌, ◌++◌, length, map, reverse, IsSomeAnd, Option, Some, None, slice_get, refl, sym, ap, ◌∙◌, subst, arith, length-append, append_assoc}
 use Rattle.std.proofs.lemmas.Option.{slice_get_within}
 use Rattle.std.specs.Prelude.{true, false, Bool}
 use Rattle.std.specs.List.{list_all, list_any}
@@ -13,29 +12,19 @@ use Rattle.sk_tree.specs.declared.tree.ParamKind.TheVariants.{Scalar, Index, Pro
 use Rattle.sk_isa.specs.Scheme.{Slot, Known, Within, Standing, Emitted, all_emitted, emitting_of, parameters_from, kinds_of, body_emitted, code_of, signature_of, known_of, codes_after, signatures_after}
 use Rattle.sk_isa.specs.Soundness.{AreSlots, HasTypes, IsFineAt, IsSoundCode, Named, Types, is_scalar, names_what_is_there, serves}
 use Rattle.sk_isa.specs.declared.code.Code.{Code}
-use Rattle.sk_isa.specs.declared.code.Instr.{Instr}
 use Rattle.sk_isa.specs.declared.object.Signature.{Signature}
 use Rattle.sk_codegen.specs.Plain.{Counts, Names, IsPlainFunction, ArePlain, all_behind, judged_of, returns_of}
-use Rattle.sk_codegen.proofs.ExpressionRuns.{and_left, and_right}
-use Rattle.sk_codegen.proofs.Agreement.{names_of}
-use Rattle.sk_codegen.proofs.StatementNodes.{is_some_is}
-use Rattle.sk_codegen.proofs.FunctionRuns.{scalar_kinds}
-use Rattle.sk_codegen.proofs.SoundPieces.{Each, each_at, Choices, Chosen, Exits, Fits, FineAt, both_true}
-use Rattle.sk_codegen.proofs.SoundScopes.{AreCallees, IsCallee, HasSlot, InScope, IsGrown, grown_none, all_append, slice_get-seam}
+use Rattle.sk_codegen.proofs.Truths.{and_left, and_right, is_some_is}
+use Rattle.sk_codegen.proofs.Lists.{slice_get-at, slice_get-in, all_append}
+use Rattle.sk_codegen.proofs.Each.{Each, each_at, each_from, each_all}
+use Rattle.sk_codegen.proofs.Parameters.{scalar_is, scalar_kinds, kinds-length, params_names}
+use Rattle.sk_codegen.proofs.Bindings.{names_of}
+use Rattle.sk_codegen.proofs.SoundPieces.{Choices, Chosen, Exits, Fits, FineAt}
+use Rattle.sk_codegen.proofs.SoundScopes.{AreCallees, IsCallee, HasSlot, InScope, IsGrown, grown_none}
 use Rattle.sk_codegen.proofs.SoundJumps.{loops_take_turns}
 use Rattle.sk_codegen.proofs.SoundParts.{Part, exit_of}
 use Rattle.sk_codegen.proofs.SoundStatements.{IsStatement}
 use Rattle.sk_codegen.proofs.SoundBodies.{statements_sound}
-
-scalar_is : (kind : ParamKind) → is_scalar kind ≡ true → (ty : Ty) × (kind ≡ Scalar ty)
-scalar_is (Scalar ty) e = (ty, refl)
-scalar_is (Index dimension) e = let no : ⊥ = cc in absurd no
-scalar_is (Proxy dimension ty) e = let no : ⊥ = cc in absurd no
-scalar_is (Region dimension ty) e = let no : ⊥ = cc in absurd no
-
-kinds-length : (params : List Param) → length (kinds_of params) ≡ length params
-kinds-length [] = refl
-kinds-length (param ∷ params) = ap suc (kinds-length params)
 
 -- the parameters in scope have their slots
 params_scoped : (params : List Param) (number : ℕ) (before : List ParamKind) (scope : List (List ℕ × Slot)) → length before ≡ number → list_all (λ param. is_scalar param.kind) params ≡ true
@@ -47,34 +36,12 @@ params_scoped (param ∷ params) number before scope n e h =
     let slot : Slot = record { number = number; kind = param.kind } in
     let s = scalar_is param.kind (and_left (is_scalar param.kind) (list_all (λ param. is_scalar param.kind) params) e) in
     let there : slice_get (before ++ param.kind ∷ kinds_of params) number ≡ Some (Scalar s.0) =
-    subst (λ k. slice_get (before ++ param.kind ∷ kinds_of params) k ≡ Some (Scalar s.0)) n
-    (slice_get-seam before param.kind (kinds_of params) ∙ ap Some s.1) in
+    slice_get-at before param.kind (kinds_of params) number n ∙ ap Some s.1 in
     let has : HasSlot (before ++ param.kind ∷ kinds_of params) slot = record { ty = s.0; kind = s.1; there = there } in
     subst (λ (l : List ParamKind). InScope l (parameters_from (suc number) params ((param.name, slot) ∷ scope))) same
     (params_scoped params (suc number) one ((param.name, slot) ∷ scope) (omega (arith, length-append before (param.kind ∷ []), n))
     (and_right (is_scalar param.kind) (list_all (λ param. is_scalar param.kind) params) e)
     (subst (λ (l : List ParamKind). InScope l ((param.name, slot) ∷ scope)) (sym same) (has, h)))
-
-params_names : (params : List Param) (number : ℕ) (scope : List (List ℕ × Slot)) → names_of (parameters_from number params scope) ≡ reverse (map (λ param. param.name) params) ++ names_of scope
-params_names [] number scope = refl
-params_names (param ∷ params) number scope =
-    let names : Names = map (λ (p : Param). p.name) params in
-    params_names params (suc number) ((param.name, record { number = number; kind = param.kind }) ∷ scope)
-    ∙ sym (append_assoc (reverse names) (param.name ∷ []) (names_of scope))
-    ∙ ap (λ l. l ++ names_of scope) (sym (reverse-append (param.name ∷ []) names))
-
-each_from : {A : Type 0} (P : ℕ → A → Type 0) (at : ℕ) (xs : List A) → ((k : ℕ) (x : A) → slice_get xs k ≡ Some x → P (at + k) x) → Each P at xs
-each_from P at [] f = tt
-each_from P at (x ∷ xs) f =
-    let here : at + 0 ≡ at = omega arith in (
-      subst (λ n. P n x) here (f 0 x refl),
-      each_from P (suc at) xs (λ k y e. let there : at + suc k ≡ suc at + k = omega arith in subst (λ n. P n y) there (f (suc k) y e)),
-    )
-
-slice_get-in : {A : Type 0} (xs : List A) (k : ℕ) → k < length xs → (x : A) × (slice_get xs k ≡ Some x)
-slice_get-in [] k low = absurd (omega (arith, low))
-slice_get-in (x ∷ xs) zero low = (x, refl)
-slice_get-in (x ∷ xs) (suc k) low = slice_get-in xs k (omega (arith, low))
 
 abbrev flat : Option (Option (List Ty)) → Option (List Ty)
 flat (Some types) = types
@@ -119,10 +86,6 @@ has_types named code end f = record {
         let g = subst (λ n. FineAt named code.depth (chosen_of f.choices) n i.0) here (each_at (FineAt named code.depth (chosen_of f.choices)) 0 at i.0 code.instrs fine.1 i.1) types e in
         record { instr = i.0; found = i.1; bounded = g.bounded; left = g.left; effect = g.effect; leads = g.leads }
 
-each_all : (test : Instr → Bool) (at : ℕ) (code : List Instr) → Each (λ k i. test i ≡ true) at code → list_all test code ≡ true
-each_all test at [] h = refl
-each_all test at (i ∷ code) h = both_true (test i) (list_all test code) h.0 (each_all test (suc at) code h.1)
-
 are_slots : (params more : List ParamKind) → list_all is_scalar more ≡ true → AreSlots params (params ++ more)
 are_slots [] [] e = tt
 are_slots [] (Scalar ty ∷ more) e = are_slots [] more e
@@ -163,7 +126,7 @@ module _ (signatures : List Signature) (number : ℕ) (counts : Counts) (known :
   part =
       let names : Names = reverse (map (λ (p : Param). p.name) function.params) in
       let after = is_some_is (all_behind (map judged_of function.body) counts names) plain.body in
-      let same : names ≡ names_of begins.scope = sym (params_names function.params 0 [] ∙ append-nil names) in
+      let same : names ≡ names_of begins.scope = params_names function.params 0 [] in
       let plain_here : all_behind (map judged_of function.body) counts (names_of begins.scope) ≡ Some after.0 =
       subst (λ (l : Names). all_behind (map judged_of function.body) counts l ≡ Some after.0) same after.1 in
       subst (λ (b : Bool). Part named emitted.depth 0 emitted.code (0 + length emitted.code) (exit_of b)) plain.returns

@@ -3,8 +3,9 @@ use Rattle.std.proofs.Common.{◌≡◌, ◌⊎◌, ℕ, suc, ◌+◌, ◌<◌, 
 use Rattle.sk_isa.specs.Soundness.{JumpsTo, LoopsTakeTurns, PassesTurn}
 use Rattle.sk_isa.specs.declared.code.Instr.{Instr}
 use Rattle.sk_isa.specs.declared.code.Instr.TheVariants as instr
-use Rattle.sk_codegen.proofs.SoundPieces.{Each, each_append, each_map, each_at, Aims, aims_map}
-use Rattle.sk_codegen.proofs.SoundScopes.{slice_get-front}
+use Rattle.sk_codegen.proofs.Lists.{slice_get-front, slice_get-back}
+use Rattle.sk_codegen.proofs.Each.{Each, each_append, each_map, each_at}
+use Rattle.sk_codegen.proofs.SoundPieces.{Aims, aims_map}
 
 -- what holds of each jump, from its address to its target
 abbrev pub AllJumps : (ℕ → ℕ → Type 0) → ℕ → List Instr → Type 0
@@ -22,12 +23,6 @@ aims_all R i f = tt
 pub late_jumps : (R : ℕ → ℕ → Type 0) (at : ℕ) (code : List Instr) → ((k to : ℕ) → at ≤ k → R k to) → AllJumps R at code
 late_jumps R at [] f = tt
 late_jumps R at (i ∷ code) f = (aims_all (R at) i (λ to. f at to (omega arith)), late_jumps R (suc at) code (λ k to low. f k to (omega (arith, low))))
-
-slice_get-back : (a b : List Instr) (k : ℕ) (i : Instr) → slice_get b k ≡ Some i → slice_get (a ++ b) (length a + k) ≡ Some i
-slice_get-back [] b k i e = let same : k ≡ 0 + k = omega arith in subst (λ n. slice_get b n ≡ Some i) same e
-slice_get-back (x ∷ a) b k i e =
-    let same : suc (length a + k) ≡ length (x ∷ a) + k = omega arith in
-    subst (λ n. slice_get (x ∷ (a ++ b)) n ≡ Some i) same (slice_get-back a b k i e)
 
 -- no jump leads over a turn and no further than to an address
 abbrev pub Over : (turn jump : ℕ) → ℕ → ℕ → Type 0

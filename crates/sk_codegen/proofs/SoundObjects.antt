@@ -1,7 +1,6 @@
 -- The compiled form of a plain program is sound, and its functions take scalars alone.
-use Rattle.std.proofs.Common.{◌≡◌, ◌⊎◌, ℕ, zero, suc, ◌+◌, List, [], ◌∷◌, ◌++◌, length, replicate, All, Some, None, slice_get, refl, sym, ap, ◌∙◌, subst, arith, length-append, inl, inr}
+use Rattle.std.proofs.Common.{◌≡◌, ◌⊎◌, ℕ, zero, suc, ◌+◌, List, [], ◌∷◌, length, replicate, Some, None, slice_get, refl, sym, ap, ◌∙◌, subst, arith, length-append, inl, inr}
 use Rattle.std.proofs.lemmas.List.{length-map, length-replicate}
-use Rattle.std.proofs.lemmas.List.Elements.{All-nil, All-cons}
 use Rattle.std.proofs.lemmas.Option.{slice_get_within}
 use Rattle.std.specs.Prelude.{true, false, Bool}
 use Rattle.std.specs.List.{list_all}
@@ -13,7 +12,7 @@ use Rattle.sk_isa.specs.Soundness.{IsSound, IsSoundCode, TakesScalars, is_scalar
 use Rattle.sk_isa.specs.declared.code.Code.{Code}
 use Rattle.sk_isa.specs.declared.object.Signature.{Signature}
 use Rattle.sk_codegen.specs.Plain.{IsPlain}
-use Rattle.sk_codegen.proofs.SoundScopes.{slice_get-front}
+use Rattle.sk_codegen.proofs.Lists.{slice_get-front, slice_get-one_more, all_from}
 use Rattle.sk_codegen.proofs.SoundFunctions.{IsSoundFunction, functions_sound}
 
 codes-length : (number : ℕ) (known : List (List ℕ × Known)) (functions : List Function) → length (codes_after number known functions) ≡ length functions
@@ -23,21 +22,6 @@ codes-length number known (function ∷ functions) = ap suc (codes-length (suc n
 signatures-length : (number : ℕ) (known : List (List ℕ × Known)) (functions : List Function) → length (signatures_after number known functions) ≡ length functions
 signatures-length number known [] = refl
 signatures-length number known (function ∷ functions) = ap suc (signatures-length (suc number) _ functions)
-
--- an element of a list with one more at its end
-in_front : {A : Type 0} (xs : List A) (y : A) (k : ℕ) (x : A) → slice_get (xs ++ y ∷ []) k ≡ Some x → (slice_get xs k ≡ Some x) ⊎ ((y ≡ x) × (k ≡ length xs))
-in_front [] y zero x e = let same : y ≡ x = cc in inr (same, refl)
-in_front [] y (suc k) x e = let no : ⊥ = cc in absurd no
-in_front (z ∷ xs) y zero x e = inl e
-in_front (z ∷ xs) y (suc k) x e = further (in_front xs y k x e)
-  where
-    further : (slice_get xs k ≡ Some x) ⊎ ((y ≡ x) × (k ≡ length xs)) → (slice_get xs k ≡ Some x) ⊎ ((y ≡ x) × (suc k ≡ length (z ∷ xs)))
-    further (inl e) = inl e
-    further (inr p) = inr (p.0, ap suc p.1)
-
-all_from : {A : Type 0} (P : A → Type 0) (xs : List A) → ((k : ℕ) (x : A) → slice_get xs k ≡ Some x → P x) → All P xs
-all_from P [] f = All-nil P
-all_from P (x ∷ xs) f = All-cons P x xs (f 0 x refl) (all_from P xs (λ k y e. f (suc k) y e))
 
 -- none is marked
 unmarked : (n k : ℕ) → (elim (slice_get (replicate n false) k) as (λ o. Bool) [ Some marked ↦ marked | None ↦ false ]) ≡ false
@@ -60,7 +44,7 @@ function_is_sound program plain k own e =
 
 code_is_sound : (program : Program) → IsPlain program → (function : ℕ) (code : Code) (own : Signature) → slice_get (codes_of (functions_before_main program)) function ≡ Some code
     → slice_get (functions_object program).signatures function ≡ Some own → IsSoundCode (functions_object program).signatures function own code
-code_is_sound program plain function code own e f = by_case (in_front (signatures_of (functions_before_main program)) main_signature function own f)
+code_is_sound program plain function code own e f = by_case (slice_get-one_more (signatures_of (functions_before_main program)) main_signature function own f)
   where
     by_case : (slice_get (signatures_of (functions_before_main program)) function ≡ Some own) ⊎ ((main_signature ≡ own) × (function ≡ length (signatures_of (functions_before_main program))))
         → IsSoundCode (functions_object program).signatures function own code
@@ -92,7 +76,7 @@ plain_is_sound program plain =
 pub plain_takes_scalars : (program : Program) → IsPlain program → TakesScalars (functions_object program)
 plain_takes_scalars program plain =
     all_from (λ (signature : Signature). list_all is_scalar signature.slots ≡ true) (functions_object program).signatures
-    (λ k own e. by_case k own (in_front (signatures_of (functions_before_main program)) main_signature k own e))
+    (λ k own e. by_case k own (slice_get-one_more (signatures_of (functions_before_main program)) main_signature k own e))
   where
     by_case : (k : ℕ) (own : Signature) → (slice_get (signatures_of (functions_before_main program)) k ≡ Some own) ⊎ ((main_signature ≡ own) × (k ≡ length (signatures_of (functions_before_main program))))
         → list_all is_scalar own.slots ≡ true

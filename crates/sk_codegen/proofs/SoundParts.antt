@@ -7,7 +7,8 @@ use Rattle.sk_isa.specs.Scheme.{Slot}
 use Rattle.sk_isa.specs.Soundness.{Named, Types, left_by, left_if, names_what_is_there, serves, is_there}
 use Rattle.sk_isa.specs.declared.code.Instr.{Instr}
 use Rattle.sk_isa.specs.declared.code.Instr.TheVariants as instr
-use Rattle.sk_codegen.proofs.SoundPieces.{Each, each_append, each_map, Aims, Exits, Fits, then_fits, nothing_fits, last_fits, never_fits, left_fits, type_serves, IsLow}
+use Rattle.sk_codegen.proofs.Each.{Each, each_append, each_map}
+use Rattle.sk_codegen.proofs.SoundPieces.{Aims, Exits, Fits, then_fits, nothing_fits, last_fits, never_fits, left_fits, type_serves, IsLow}
 use Rattle.sk_codegen.proofs.SoundFrames.{choice_fits, if_fits, loop_fits}
 use Rattle.sk_codegen.proofs.SoundScopes.{HasSlot}
 use Rattle.sk_codegen.proofs.SoundValues.{Well, Piece, then_one, slot_type}

@@ -1,45 +1,16 @@
 -- Pieces of code that stand at an address: the types of the stack that can be chosen for each of their addresses.
-use Rattle.std.proofs.Common.{◌≡◌, ℕ, zero, suc, ◌+◌, ◌<◌, ◌≤◌, true, false, Bool, ◌&&◌, List, [], ◌∷◌, ◌++◌, length, map, All, IsSomeAnd, Option, Some, None, slice_get, refl, sym, ap, subst, arith, length-append}
+use Rattle.std.proofs.Common.{◌≡◌, ℕ, suc, ◌+◌, ◌≤◌, true, List, [], ◌∷◌, ◌++◌, length, map, All, IsSomeAnd, Option, Some, None, refl, sym, ap, subst, arith, length-append}
+use Rattle.std.proofs.lemmas.Bool.{and_from}
+use Rattle.std.proofs.lemmas.List.Elements.{All-nil}
 use Rattle.std.specs.Cmp.Lexicographic.{pointwise}
 use Rattle.sk_base.specs.declared.number.Ty.{Ty}
 use Rattle.sk_base.specs.declared.number.Ty.TheVariants.{Int, Long}
 use Rattle.sk_isa.specs.declared.code.Instr.{Instr}
 use Rattle.sk_isa.specs.declared.code.Instr.TheVariants as instr
 use Rattle.sk_isa.specs.Soundness.{Named, Types, leads_to, left_by, serves}
-use Rattle.sk_codegen.proofs.ExpressionRuns.{and_left, and_right}
-
-module _ {A : Type 0} where
-  -- what holds of each at its address, of which the first one's is given
-  abbrev pub Each : (ℕ → A → Type 0) → ℕ → List A → Type 0
-  Each P at [] = Unit {0}
-  Each P at (x ∷ xs) = P at x × Each P (suc at) xs
-
-  pub each_append : (P : ℕ → A → Type 0) (at mid : ℕ) (a b : List A) → at + length a ≡ mid → Each P at a → Each P mid b → Each P at (a ++ b)
-  each_append P at mid [] b e f g = let same : mid ≡ at = omega (arith, e) in subst (λ n. Each P n b) same g
-  each_append P at mid (x ∷ a) b e f g = (f.0, each_append P (suc at) mid a b (omega (arith, e)) f.1 g)
-
-  pub each_front : (P : ℕ → A → Type 0) (at : ℕ) (a b : List A) → Each P at (a ++ b) → Each P at a
-  each_front P at [] b h = tt
-  each_front P at (x ∷ a) b h = (h.0, each_front P (suc at) a b h.1)
-
-  pub each_back : (P : ℕ → A → Type 0) (at mid : ℕ) (a b : List A) → at + length a ≡ mid → Each P at (a ++ b) → Each P mid b
-  each_back P at mid [] b e h = let same : at ≡ mid = omega (arith, e) in subst (λ n. Each P n b) same h
-  each_back P at mid (x ∷ a) b e h = each_back P (suc at) mid a b (omega (arith, e)) h.1
-
-  pub each_map : (P Q : ℕ → A → Type 0) (at : ℕ) (xs : List A) → ((k : ℕ) (x : A) → at ≤ k → k < at + length xs → P k x → Q k x) → Each P at xs → Each Q at xs
-  each_map P Q at [] f h = tt
-  each_map P Q at (x ∷ xs) f h =
-      (f at x (omega arith) (omega arith) h.0, each_map P Q (suc at) xs (λ k y low high. f k y (omega (arith, low)) (omega (arith, high))) h.1)
-
-  pub each_at : (P : ℕ → A → Type 0) (at k : ℕ) (x : A) (xs : List A) → Each P at xs → slice_get xs k ≡ Some x → P (at + k) x
-  each_at P at k x [] h e = let no : ⊥ = cc in absurd no
-  each_at P at zero x (y ∷ xs) h e =
-      let same : y ≡ x = cc in
-      let here : at ≡ at + 0 = omega arith in
-      subst (λ n. P n x) here (subst (λ z. P at z) same h.0)
-  each_at P at (suc k) x (y ∷ xs) h e =
-      let there : suc at + k ≡ at + suc k = omega arith in
-      subst (λ n. P n x) there (each_at P (suc at) k x xs h.1 e)
+use Rattle.sk_codegen.proofs.Truths.{and_left, and_right}
+use Rattle.sk_codegen.proofs.Lists.{all_one, all_two}
+use Rattle.sk_codegen.proofs.Each.{Each, each_append, each_front, each_back}
 
 -- the types serve for those that are chosen at an address
 abbrev pub Serves : Types → ℕ → List Ty → Type 0
@@ -54,13 +25,9 @@ pub type_serves : (ty : Ty) → serves ty ty ≡ true
 type_serves Int = refl
 type_serves Long = refl
 
-pub both_true : (a b : Bool) → a ≡ true → b ≡ true → (a && b) ≡ true
-both_true true b e f = f
-both_true false b e f = e
-
 pub types_serve : (types : List Ty) → pointwise serves types types ≡ true
 types_serve [] = refl
-types_serve (ty ∷ types) = both_true (serves ty ty) (pointwise serves types types) (type_serves ty) (types_serve types)
+types_serve (ty ∷ types) = and_from (serves ty ty) (pointwise serves types types) (type_serves ty) (types_serve types)
 
 type_serves_on : (a b c : Ty) → serves a b ≡ true → serves b c ≡ true → serves a c ≡ true
 type_serves_on Int b c e f = refl
@@ -73,7 +40,7 @@ types_serve_on [] (y ∷ b) c e f = let no : ⊥ = cc in absurd no
 types_serve_on (x ∷ a) [] c e f = let no : ⊥ = cc in absurd no
 types_serve_on (x ∷ a) (y ∷ b) [] e f = let no : ⊥ = cc in absurd no
 types_serve_on (x ∷ a) (y ∷ b) (z ∷ c) e f =
-    both_true (serves x z) (pointwise serves a c)
+    and_from (serves x z) (pointwise serves a c)
     (type_serves_on x y z (and_left (serves x y) (pointwise serves a b) e) (and_left (serves y z) (pointwise serves b c) f))
     (types_serve_on a b c (and_right (serves x y) (pointwise serves a b) e) (and_right (serves y z) (pointwise serves b c) f))
 
@@ -91,18 +58,6 @@ serves_exact chosen to types e =
 pub exits_exact : (chosen : Types) (to : ℕ) (types : Option (List Ty)) → chosen to ≡ types → Exits chosen to types
 exits_exact chosen to None e = tt
 exits_exact chosen to (Some types) e = serves_exact chosen to types e
-
-pub all_none : (P : ℕ → Type 0) → All P []
-all_none P k d low = absurd (omega (arith, low))
-
-pub all_one : (P : ℕ → Type 0) (x : ℕ) → P x → All P (x ∷ [])
-all_one P x h zero d low = h
-all_one P x h (suc k) d low = absurd (omega (arith, low))
-
-pub all_two : (P : ℕ → Type 0) (x y : ℕ) → P x → P y → All P (x ∷ y ∷ [])
-all_two P x y h g zero d low = h
-all_two P x y h g (suc zero) d low = g
-all_two P x y h g (suc (suc k)) d low = absurd (omega (arith, low))
 
 -- the address to which an instruction jumps, if it is a jump
 abbrev pub Aims : (ℕ → Type 0) → Instr → Type 0
@@ -198,7 +153,7 @@ module _ (named : Named) (depth : ℕ) where
     long = omega arith;
     fine = λ chosen has exits. (
       serves_exact chosen at types has.0,
-      (fine_some chosen at i types left has.0 low effect (subst (λ (l : List ℕ). All (λ to. Serves chosen to left) l) (sym leads) (all_none (λ n. Serves chosen n left))), tt),
+      (fine_some chosen at i types left has.0 low effect (subst (λ (l : List ℕ). All (λ to. Serves chosen to left) l) (sym leads) (All-nil (λ n. Serves chosen n left))), tt),
     );
   }
 

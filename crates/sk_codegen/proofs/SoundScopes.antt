@@ -1,5 +1,5 @@
 -- The names in scope and the functions that may be called, each with what the machine's code needs of it.
-use Rattle.std.proofs.Common.{◌≡◌, ℕ, zero, suc, ◌<◌, List, [], ◌∷◌, ◌++◌, length, Some, None, slice_get, refl, sym, ap, ◌∙◌, subst, append_assoc, append-nil}
+use Rattle.std.proofs.Common.{◌≡◌, ℕ, ◌<◌, List, [], ◌∷◌, ◌++◌, length, Some, slice_get, refl, sym, ap, ◌∙◌, subst, append_assoc, append-nil}
 use Rattle.std.specs.Prelude.{true, false, Bool, ◌||◌}
 use Rattle.std.specs.List.{list_all}
 use Rattle.sk_base.specs.declared.number.Ty.{Ty}
@@ -11,27 +11,9 @@ use Rattle.sk_isa.specs.Scheme.{Slot, Known}
 use Rattle.sk_isa.specs.Soundness.{is_scalar}
 use Rattle.sk_isa.specs.declared.object.Signature.{Signature}
 use Rattle.sk_codegen.specs.Plain.{Counts, is_among}
-use Rattle.sk_codegen.proofs.ExpressionRuns.{and_left, and_right}
-use Rattle.sk_codegen.proofs.Agreement.{bound_to-here, names_of}
-use Rattle.sk_codegen.proofs.SoundPieces.{both_true}
-
-module _ {X : Type 0} where
-  pub slice_get-front : (xs ys : List X) (k : ℕ) (x : X) → slice_get xs k ≡ Some x → slice_get (xs ++ ys) k ≡ Some x
-  slice_get-front [] ys k x e = let no : ⊥ = cc in absurd no
-  slice_get-front (y ∷ xs) ys zero x e = e
-  slice_get-front (y ∷ xs) ys (suc k) x e = slice_get-front xs ys k x e
-
-  pub slice_get-seam : (xs : List X) (x : X) (ys : List X) → slice_get (xs ++ x ∷ ys) (length xs) ≡ Some x
-  slice_get-seam [] x ys = refl
-  slice_get-seam (y ∷ xs) x ys = slice_get-seam xs x ys
-
-  pub all_append : (test : X → Bool) (xs ys : List X) → list_all test xs ≡ true → list_all test ys ≡ true → list_all test (xs ++ ys) ≡ true
-  all_append test [] ys e f = f
-  all_append test (x ∷ xs) ys e f =
-      both_true (test x) (list_all test (xs ++ ys)) (and_left (test x) (list_all test xs) e) (all_append test xs ys (and_right (test x) (list_all test xs) e) f)
-
-some_same : {X : Type 0} (x y : X) → Some x ≡ Some y → x ≡ y
-some_same x y e = cc
+use Rattle.sk_codegen.proofs.Truths.{some_same}
+use Rattle.sk_codegen.proofs.Lists.{slice_get-front, all_append}
+use Rattle.sk_codegen.proofs.Bindings.{bound_to-here, names_of}
 
 -- the slot is there, for a scalar of the slot's type
 pub record HasSlot (slots : List ParamKind) (slot : Slot) : Type 0 where
@@ -90,18 +72,6 @@ name_bound slots name (one ∷ scope) h e = by_test (same_bytes one.0 name) refl
         let among : is_among name (names_of scope) ≡ true = sym (ap (λ c. c || is_among name (names_of scope)) s) ∙ e in
         let r = later among in
         record { slot = r.slot; is = bound_to-here name one.0 one scope false refl s ∙ r.is; has = r.has }
-
-pub name_unbound : (name : List ℕ) (scope : List (List ℕ × Slot)) → is_among name (names_of scope) ≡ false → bound_to name scope ≡ None
-name_unbound name [] e = refl
-name_unbound name (one ∷ scope) e = by_test (same_bytes one.0 name) refl (name_unbound name scope)
-  where
-    by_test : (b : Bool) → same_bytes one.0 name ≡ b → (is_among name (names_of scope) ≡ false → bound_to name scope ≡ None) → bound_to name (one ∷ scope) ≡ None
-    by_test true s later =
-        let no : true ≡ false = sym (ap (λ c. c || is_among name (names_of scope)) s) ∙ e in
-        let wrong : ⊥ = cc in absurd wrong
-    by_test false s later =
-        let none : is_among name (names_of scope) ≡ false = sym (ap (λ c. c || is_among name (names_of scope)) s) ∙ e in
-        bound_to-here name one.0 one scope false refl s ∙ later none
 
 -- a function that may be called: it is one of those below, with its signature, and takes so many scalars
 pub record IsCallee (signatures : List Signature) (function count : ℕ) (known : Known) : Type 0 where

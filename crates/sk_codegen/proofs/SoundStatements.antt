@@ -1,5 +1,5 @@
 -- The code of each kind of statement is sound, where that of its parts is.
-use Rattle.std.proofs.Common.{◌≡◌, ℕ, suc, ◌+◌, ◌≤◌, List, [], ◌∷◌, ◌++◌, length, Option, Some, None, refl, sym, ap, ◌∙◌, subst, arith}
+use Rattle.std.proofs.Common.{◌≡◌, ℕ, suc, ◌+◌, ◌≤◌, List, [], ◌∷◌, ◌++◌, length, Option, Some, refl, sym, ap, ◌∙◌, subst, arith}
 use Rattle.std.specs.Prelude.{true, false, Bool, ◌&&◌, ◌||◌}
 use Rattle.std.specs.Option.{option_and_then}
 use Rattle.sk_base.specs.declared.number.Ty.{Ty}
@@ -12,12 +12,14 @@ use Rattle.sk_tree.specs.declared.tree.What.TheOpen as what
 use Rattle.sk_isa.specs.Scheme.{Slot, Compiled, compiled_of, Within, Standing, Emitted, Emitting, around_in, behind, joined, only_code, all_emitted, block_emitted, wanted_code, assigned_code, if_emitted, if_else_emitted, loop_emitted, emitting_step}
 use Rattle.sk_isa.specs.Soundness.{Named}
 use Rattle.sk_isa.specs.declared.code.Instr.{Instr}
-use Rattle.sk_codegen.specs.Plain.{Counts, Names, is_plain_expression, is_among, Judged, judged_step, judged_if, behind_if, all_behind, block_is_plain, loop_is_plain, is_some, is_some_and}
-use Rattle.sk_codegen.proofs.ExpressionRuns.{and_left, and_right}
-use Rattle.sk_codegen.proofs.Agreement.{names_of}
-use Rattle.sk_codegen.proofs.StatementNodes.{behind_if_is, is_some_is, is_some_and_is, and_then_is}
+use Rattle.sk_codegen.specs.Plain.{Counts, Names, is_plain_expression, is_among, Judged, judged_step, judged_if, all_behind, block_is_plain, loop_is_plain}
+use Rattle.sk_codegen.proofs.Truths.{and_left, and_right, is_some_is, and_then_is}
+use Rattle.sk_codegen.proofs.Lists.{slice_get-seam}
+use Rattle.sk_codegen.proofs.PlainParts.{behind_if_is, plain_block, if_parts, IsLoop, for_parts}
+use Rattle.sk_codegen.proofs.Declared.{assigned_scope, assigned_slots}
+use Rattle.sk_codegen.proofs.Bindings.{names_of}
 use Rattle.sk_codegen.proofs.Choices.{moved}
-use Rattle.sk_codegen.proofs.SoundScopes.{InScope, HasSlot, IsGrown, grown_none, grown_one, grown_on, name_bound, scope_grown, slot_grown, slice_get-seam, AreCallees}
+use Rattle.sk_codegen.proofs.SoundScopes.{InScope, HasSlot, IsGrown, grown_none, grown_one, grown_on, name_bound, scope_grown, slot_grown, AreCallees}
 use Rattle.sk_codegen.proofs.SoundValues.{Piece}
 use Rattle.sk_codegen.proofs.SoundExpressions.{IsSound, wanted_value, expression_sound}
 use Rattle.sk_codegen.proofs.SoundParts.{Part, exit_of, part_at, going_part, nothing_part, store_part, return_part, then_part, if_part, if_else_part, loop_part}
@@ -74,26 +76,18 @@ module _ (named : Named) (depth : ℕ) (counts : Counts) (within : Within) (call
       own_slot : (st : Standing) → HasSlot (st.slots ++ Scalar ty ∷ []) (slot_in st)
       own_slot st = record { ty = ty; kind = refl; there = slice_get-seam st.slots (Scalar ty) [] }
 
-  assigned_slots : (o : Option Slot) (c : Compiled) (st : Standing) → (assigned_code o c within st).slots ≡ st.slots
-  assigned_slots (Some slot) c st = refl
-  assigned_slots None c st = refl
-
-  assigned_scope : (o : Option Slot) (c : Compiled) (st : Standing) → (assigned_code o c within st).scope ≡ st.scope
-  assigned_scope (Some slot) c st = refl
-  assigned_scope None c st = refl
-
   pub assign_statement : (name : List ℕ) (e : Expr) → IsStatement (emitting_step (what.Assign name e)) (judged_step (what.Assign name e)) false
   assign_statement name e = record {
     names = λ st after h.
         let c = compiled_of e in
         sym (behind_if_is (is_among name (names_of st.scope) && is_plain_expression e counts (names_of st.scope)) (names_of st.scope) after h).1
-        ∙ sym (ap names_of (assigned_scope (bound_to name st.scope) c st));
-    grown = λ st. subst (λ (l : List ParamKind). IsGrown st.slots l) (sym (assigned_slots (bound_to name st.scope) (compiled_of e) st)) (grown_none st.slots);
+        ∙ sym (ap names_of (assigned_scope (bound_to name st.scope) c within st));
+    grown = λ st. subst (λ (l : List ParamKind). IsGrown st.slots l) (sym (assigned_slots (bound_to name st.scope) (compiled_of e) within st)) (grown_none st.slots);
     scoped = λ st h.
         let o = bound_to name st.scope in
         let c = compiled_of e in
-        subst (λ (l : List ParamKind). InScope l (assigned_code o c within st).scope) (sym (assigned_slots o c st))
-        (subst (λ (s : List (List ℕ × Slot)). InScope st.slots s) (sym (assigned_scope o c st)) h);
+        subst (λ (l : List ParamKind). InScope l (assigned_code o c within st).scope) (sym (assigned_slots o c within st))
+        (subst (λ (s : List (List ℕ × Slot)). InScope st.slots s) (sym (assigned_scope o c within st)) h);
     part = λ st after h scoped grown low.
         let c : Compiled = compiled_of e in
         let o = bound_to name st.scope in
@@ -102,7 +96,7 @@ module _ (named : Named) (depth : ℕ) (counts : Counts) (within : Within) (call
         let among = and_left (is_among name names) (is_plain_expression e counts names) both in
         let plain = and_right (is_among name names) (is_plain_expression e counts names) both in
         let b = name_bound st.slots name st.scope scoped among in
-        let grown' : IsGrown st.slots Own = subst (λ (l : List ParamKind). IsGrown l Own) (assigned_slots o c st) grown in
+        let grown' : IsGrown st.slots Own = subst (λ (l : List ParamKind). IsGrown l Own) (assigned_slots o c within st) grown in
         let low' : c.depth ≤ depth = subst (λ (o : Option Slot). (assigned_code o c within st).depth ≤ depth) b.is low in
         let at = expression_at e st scoped grown' plain low' in
         let code : List Instr = wanted_code (kind_type b.slot.kind) c (around_in within st) st.at in
@@ -174,9 +168,6 @@ module _ (named : Named) (depth : ℕ) (counts : Counts) (within : Within) (call
         f.part st plain.0 plain.1 scoped grown low;
   }
 
-  plain_block : (js : List Judged) (names : Names) → block_is_plain js counts names ≡ true → behind_if (block_is_plain js counts names) names ≡ Some names
-  plain_block js names e = ap (λ b. behind_if b names) e
-
   pub if_statement : (test : Expr) (es : List Emitting) (js : List Judged) (returns : Bool) → IsBlock es js returns → IsStatement (if_emitted (compiled_of test) es) (judged_step (what.If test js [])) false
   if_statement test es js returns f = record {
     names = λ st after h. sym (behind_if_is (is_plain_expression test counts (names_of st.scope) && block_is_plain js counts (names_of st.scope) && block_is_plain [] counts (names_of st.scope)) (names_of st.scope) after h).1;
@@ -184,17 +175,14 @@ module _ (named : Named) (depth : ℕ) (counts : Counts) (within : Within) (call
     scoped = λ st h. scope_grown st.slots (block_emitted es within (inside st)).slots st.scope (f.grown (inside st)) h;
     part = λ st after h scoped grown low.
         let names = names_of st.scope in
-        let fine = (behind_if_is (is_plain_expression test counts names && block_is_plain js counts names && block_is_plain [] counts names) names after h).0 in
-        let fine1 = and_left (is_plain_expression test counts names && block_is_plain js counts names) (block_is_plain [] counts names) fine in
-        let test_plain = and_left (is_plain_expression test counts names) (block_is_plain js counts names) fine1 in
-        let body_plain = and_right (is_plain_expression test counts names) (block_is_plain js counts names) fine1 in
+        let plain = if_parts counts test js [] names after h in
         let first : List Instr = code_at test st in
         let p : ℕ = st.at + length first in
         let st1 : Standing = moved st (p + 1) st.slots in
         let inner : Emitted = block_emitted es within st1 in
         let end : ℕ = p + 1 + length inner.code in
-        let at = expression_at test st scoped (grown_on st.slots inner.slots Own (f.grown st1) grown) test_plain (omega (arith, low)) in
-        let body = going_part named depth (p + 1) end inner.code returns (f.part st1 names (plain_block js names body_plain) scoped grown (omega (arith, low))) in
+        let at = expression_at test st scoped (grown_on st.slots inner.slots Own (f.grown st1) grown) plain.test_plain (omega (arith, low)) in
+        let body = going_part named depth (p + 1) end inner.code returns (f.part st1 names (plain_block counts js names plain.body_plain) scoped grown (omega (arith, low))) in
         if_part named depth ((compiled_of test).ty (around_in within st)) st.at p end end first inner.code at.high at.piece
         (part_at named depth (p + 1) (suc p) end inner.code (Some []) (omega arith) body) refl;
   }
@@ -210,11 +198,7 @@ module _ (named : Named) (depth : ℕ) (counts : Counts) (within : Within) (call
     scoped = λ st h. scope_grown st.slots (if_else_emitted (compiled_of test) es es2 within st).slots st.scope (all_grown st) h;
     part = λ st after h scoped grown low.
         let names = names_of st.scope in
-        let fine = (behind_if_is (is_plain_expression test counts names && block_is_plain js counts names && block_is_plain js2 counts names) names after h).0 in
-        let fine1 = and_left (is_plain_expression test counts names && block_is_plain js counts names) (block_is_plain js2 counts names) fine in
-        let test_plain = and_left (is_plain_expression test counts names) (block_is_plain js counts names) fine1 in
-        let body_plain = and_right (is_plain_expression test counts names) (block_is_plain js counts names) fine1 in
-        let other_plain = and_right (is_plain_expression test counts names && block_is_plain js counts names) (block_is_plain js2 counts names) fine in
+        let plain = if_parts counts test js js2 names after h in
         let first : List Instr = code_at test st in
         let p : ℕ = st.at + length first in
         let st1 : Standing = moved st (p + 1) st.slots in
@@ -225,9 +209,9 @@ module _ (named : Named) (depth : ℕ) (counts : Counts) (within : Within) (call
         let last : Emitted = block_emitted es2 within st2 in
         let end : ℕ = third + length last.code in
         let grown1 = grown_on inner.slots last.slots Own (g.grown st2) grown in
-        let at = expression_at test st scoped (grown_on st.slots inner.slots Own (f.grown st1) grown1) test_plain (omega (arith, low)) in
-        let body = f.part st1 names (plain_block js names body_plain) scoped grown1 (omega (arith, low)) in
-        let other = g.part st2 names (plain_block js2 names other_plain) (scope_grown st.slots inner.slots st.scope (f.grown st1) scoped) grown (omega (arith, low)) in
+        let at = expression_at test st scoped (grown_on st.slots inner.slots Own (f.grown st1) grown1) plain.test_plain (omega (arith, low)) in
+        let body = f.part st1 names (plain_block counts js names plain.body_plain) scoped grown1 (omega (arith, low)) in
+        let other = g.part st2 names (plain_block counts js2 names plain.other_plain) (scope_grown st.slots inner.slots st.scope (f.grown st1) scoped) grown (omega (arith, low)) in
         if_else_part named depth r1 r2 ((compiled_of test).ty (around_in within st)) st.at p q third end end first inner.code last.code at.high at.piece
         (part_at named depth (p + 1) (suc p) q inner.code (exit_of r1) (omega arith) body)
         (part_at named depth third (suc q) end last.code (exit_of r2) (omega arith) other) (omega arith) refl;
@@ -241,13 +225,6 @@ module _ (named : Named) (depth : ℕ) (counts : Counts) (within : Within) (call
           let st2 : Standing = moved st (p + length inner.code + 2) inner.slots in
           grown_on st.slots inner.slots (block_emitted es2 within st2).slots (f.grown st1) (g.grown st2)
 
-  -- a loop's parts are plain where it stands
-  record IsLoop (names : Names) (test : Expr) (js : List Judged) (step : Judged) : Type 0 where
-    test_plain : is_plain_expression test counts names ≡ true
-    body_plain : block_is_plain js counts names ≡ true
-    after : Names
-    step_plain : step.behind counts names ≡ Some after
-
   loop_slots : (test : Expr) (es : List Emitting) (js : List Judged) (emits : Emitting) (judged : Judged) (r1 r2 : Bool) → IsBlock es js r1 → IsStatement emits judged r2
       → (st : Standing) → IsGrown st.slots (loop_emitted (compiled_of test) (block_emitted es) emits within st).slots
   loop_slots test es js emits judged r1 r2 f g st =
@@ -258,7 +235,7 @@ module _ (named : Named) (depth : ℕ) (counts : Counts) (within : Within) (call
       grown_on st.slots inner.slots (emits within st2).slots (f.grown st1) (g.grown st2)
 
   loop_sound : (test : Expr) (es : List Emitting) (js : List Judged) (emits : Emitting) (judged : Judged) (r1 r2 : Bool) → IsBlock es js r1 → IsStatement emits judged r2
-      → (st : Standing) → IsLoop (names_of st.scope) test js judged → InScope st.slots st.scope → IsGrown (loop_emitted (compiled_of test) (block_emitted es) emits within st).slots Own
+      → (st : Standing) → IsLoop counts (names_of st.scope) test js judged → InScope st.slots st.scope → IsGrown (loop_emitted (compiled_of test) (block_emitted es) emits within st).slots Own
       → (loop_emitted (compiled_of test) (block_emitted es) emits within st).depth ≤ depth
       → Part named depth st.at (loop_emitted (compiled_of test) (block_emitted es) emits within st).code
       (st.at + length (loop_emitted (compiled_of test) (block_emitted es) emits within st).code) (Some [])
@@ -275,29 +252,10 @@ module _ (named : Named) (depth : ℕ) (counts : Counts) (within : Within) (call
       let ends : ℕ = p + length inner.code + length last.code + 3 in
       let grown1 = grown_on inner.slots last.slots Own (g.grown st2) grown in
       let at = expression_at test st scoped (grown_on st.slots inner.slots Own (f.grown st1) grown1) plain.test_plain (omega (arith, low)) in
-      let body = going_part named depth (p + 2) q inner.code r1 (f.part st1 names (plain_block js names plain.body_plain) scoped grown1 (omega (arith, low))) in
+      let body = going_part named depth (p + 2) q inner.code r1 (f.part st1 names (plain_block counts js names plain.body_plain) scoped grown1 (omega (arith, low))) in
       let step = going_part named depth q r last.code r2 (g.part st2 plain.after plain.step_plain (scope_grown st.slots inner.slots st.scope (f.grown st1) scoped) grown (omega (arith, low))) in
       loop_part named depth ((compiled_of test).ty (around_in within st)) st.at p q r ends first inner.code last.code at.high at.piece
       (part_at named depth (p + 2) (suc (suc p)) q inner.code (Some []) (omega arith) body) step (omega arith)
-
-  -- what is judged of a loop, by its parts
-  for_parts : (jf : Judged) (test : Expr) (step : Judged) (js : List Judged) (names : Names) → loop_is_plain jf test step js counts names ≡ true
-      → (inner : Names) × (jf.behind counts names ≡ Some inner) × IsLoop inner test js step
-  for_parts jf test step js names fine =
-      let parts : Names → Bool = λ inner. is_plain_expression test counts inner && block_is_plain js counts inner && is_some (step.behind counts inner) in
-      let tail = and_right ((jf.declares || jf.assigns) && step.assigns) (is_some_and parts (jf.behind counts names)) fine in
-      let p = is_some_and_is parts (jf.behind counts names) tail in
-      let two = and_left (is_plain_expression test counts p.0 && block_is_plain js counts p.0) (is_some (step.behind counts p.0)) p.2 in
-      let q = is_some_is (step.behind counts p.0) (and_right (is_plain_expression test counts p.0 && block_is_plain js counts p.0) (is_some (step.behind counts p.0)) p.2) in (
-        p.0,
-        p.1,
-        record {
-          test_plain = and_left (is_plain_expression test counts p.0) (block_is_plain js counts p.0) two;
-          body_plain = and_right (is_plain_expression test counts p.0) (block_is_plain js counts p.0) two;
-          after = q.0;
-          step_plain = q.1;
-        },
-      )
 
   pub for_statement : (ef : Emitting) (jf : Judged) (rf : Bool) (test : Expr) (emits : Emitting) (judged : Judged) (rs : Bool) (es : List Emitting) (js : List Judged) (rb : Bool)
       → IsStatement ef jf rf → IsStatement emits judged rs → IsBlock es js rb
@@ -308,11 +266,11 @@ module _ (named : Named) (depth : ℕ) (counts : Counts) (within : Within) (call
     scoped = λ st h. scope_grown st.slots (emitting_step (what.For ef test emits es) within st).slots st.scope (all_grown st) h;
     part = λ st after h scoped grown low.
         let names = names_of st.scope in
-        let p = for_parts jf test judged js names (behind_if_is (loop_is_plain jf test judged js counts names) names after h).0 in
+        let p = for_parts counts jf test judged js names (behind_if_is (loop_is_plain jf test judged js counts names) names after h).0 in
         let one : Emitted = ef within st in
         let st1 : Standing = behind st one in
         let loop : Emitted = loop_emitted (compiled_of test) (block_emitted es) emits within st1 in
-        let plain : IsLoop (names_of one.scope) test js judged = subst (λ (n : Names). IsLoop n test js judged) (f.names st p.0 p.1) p.2 in
+        let plain : IsLoop counts (names_of one.scope) test js judged = subst (λ (n : Names). IsLoop counts n test js judged) (f.names st p.0 p.1) p.2 in
         let fine1 = going_part named depth st.at st1.at one.code rf (f.part st p.0 p.1 scoped (grown_on one.slots loop.slots Own (loop_slots test es js emits judged rb rs b g st1) grown) (omega (arith, low))) in
         let fine2 = loop_sound test es js emits judged rb rs b g st1 plain (f.scoped st scoped) grown (omega (arith, low)) in
         then_part named depth false false st.at st1.at (st1.at + length loop.code) one.code loop.code fine1 fine2;

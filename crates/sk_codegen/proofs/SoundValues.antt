@@ -1,8 +1,8 @@
 -- Pieces of code that give a value: their stack types, what their instructions name, and their jumps, all forward.
-use Rattle.std.proofs.Common.{◌≡◌, ℕ, suc, ◌+◌, ◌<◌, ◌≤◌, List, [], ◌∷◌, ◌++◌, length, map, reverse, take, drop, Option, Some, None, ℤ, pos, negsuc, slice_get, refl, sym, ap, ◌∙◌, subst, arith, length-append, append_assoc, rules}
-use Rattle.std.proofs.lemmas.List.{length-reverse, reverse-append}
+use Rattle.std.proofs.Common.{◌≡◌, ℕ, suc, ◌+◌, ◌<◌, ◌≤◌, List, [], ◌∷◌, ◌++◌, length, map, reverse, take, drop, Option, Some, None, ℤ, pos, negsuc, slice_get, refl, sym, ap, ◌∙◌, subst, arith, length-append}
+use Rattle.std.proofs.lemmas.List.{length-map, length-reverse, reverse-reverse}
 use Rattle.std.proofs.Math.Seq.{take-append_seam, drop-append_seam}
-use Rattle.std.proofs.lemmas.Bool.{leb-true}
+use Rattle.std.proofs.lemmas.Bool.{and_from, le-leb, leb-true, lt-ltb}
 use Rattle.std.proofs.lemmas.Bool.Decides.{nat_tests}
 use Rattle.std.specs.Prelude.{true, Bool, ◌&&◌, ◌||◌, if◌then◌else◌, nat_lt, nat_le}
 use Rattle.std.specs.List.{list_all}
@@ -24,8 +24,10 @@ use Rattle.sk_isa.specs.declared.code.Instr.{Instr}
 use Rattle.sk_isa.specs.declared.code.Instr.TheVariants as instr
 use Rattle.sk_isa.specs.declared.object.Signature.{Signature}
 use Rattle.sk_codegen.specs.Plain.{fits_type}
-use Rattle.sk_codegen.proofs.ExpressionRuns.{and_left}
-use Rattle.sk_codegen.proofs.SoundPieces.{Each, each_append, each_map, Aims, aims_map, Fits, then_fits, nothing_fits, one_fits, wider_fits, type_serves, types_serve, both_true}
+use Rattle.sk_codegen.proofs.Truths.{and_left}
+use Rattle.sk_codegen.proofs.Lists.{reverse-onto}
+use Rattle.sk_codegen.proofs.Each.{Each, each_append, each_map}
+use Rattle.sk_codegen.proofs.SoundPieces.{Aims, aims_map, Fits, then_fits, nothing_fits, one_fits, wider_fits, type_serves, types_serve}
 use Rattle.sk_codegen.proofs.SoundFrames.{choice_fits, both_fits, either_fits}
 use Rattle.sk_codegen.proofs.SoundScopes.{HasSlot, IsCallee}
 
@@ -54,9 +56,9 @@ wider_same Int = refl
 wider_same Long = refl
 
 operands_serve : (op : Op) (left right : Ty) → (serves left (operation_type op left right) && (is_shift op || serves right (operation_type op left right))) ≡ true
-operands_serve Shl left right = both_true (serves left left) true (type_serves left) refl
-operands_serve Shr left right = both_true (serves left left) true (type_serves left) refl
-operands_serve op left right = both_true (serves left (wider left right)) (serves right (wider left right)) (serves_left left right) (serves_right left right)
+operands_serve Shl left right = and_from (serves left left) true (type_serves left) refl
+operands_serve Shr left right = and_from (serves left left) true (type_serves left) refl
+operands_serve op left right = and_from (serves left (wider left right)) (serves right (wider left right)) (serves_left left right) (serves_right left right)
 
 result_same : (op : Op) (left right : Ty) → result_type op (operation_type op left right) (operation_type op left right) ≡ result_type op left right
 result_same Lt left right = refl
@@ -82,44 +84,28 @@ number_serves Long number e = long_serves (number_type number)
     long_serves Int = refl
     long_serves Long = refl
 
-reverse-twice : {A : Type 0} (l : List A) → reverse (reverse l) ≡ l
-reverse-twice [] = refl
-reverse-twice (x ∷ l) =
-    ap reverse (reverse-append (x ∷ []) l) ∙ reverse-append (reverse l) (x ∷ []) ∙ ap (λ r. x ∷ r) (reverse-twice l)
-
-nat_le-so : (n m : ℕ) → n ≤ m → nat_le n m ≡ true
-nat_le-so n m le = search rules
-
-nat_lt-so : (n m : ℕ) → n < m → nat_lt n m ≡ true
-nat_lt-so n m le = search rules
-
 -- the types of arguments on the stack, the latest first
 abbrev pub pushed : List ParamKind → List Ty → List Ty
 pushed kinds types = reverse (map kind_type kinds) ++ types
 
 pub pushed-more : (kind : ParamKind) (kinds : List ParamKind) (types : List Ty) → pushed kinds (kind_type kind ∷ types) ≡ pushed (kind ∷ kinds) types
-pushed-more kind kinds types =
-    sym (ap (λ l. l ++ types) (reverse-append (kind_type kind ∷ []) (map kind_type kinds)) ∙ append_assoc (reverse (map kind_type kinds)) (kind_type kind ∷ []) types)
+pushed-more kind kinds types = reverse-onto (kind_type kind) (map kind_type kinds) types
 
 kinds_serve : (kinds : List ParamKind) → list_all is_scalar kinds ≡ true → serve_for (map kind_type kinds) kinds ≡ true
 kinds_serve [] e = refl
-kinds_serve (Scalar ty ∷ kinds) e = both_true (serves ty ty) (serve_for (map kind_type kinds) kinds) (type_serves ty) (kinds_serve kinds e)
+kinds_serve (Scalar ty ∷ kinds) e = and_from (serves ty ty) (serve_for (map kind_type kinds) kinds) (type_serves ty) (kinds_serve kinds e)
 kinds_serve (Index dimension ∷ kinds) e = let no : ⊥ = cc in absurd no
 kinds_serve (Proxy dimension ty ∷ kinds) e = let no : ⊥ = cc in absurd no
 kinds_serve (Region dimension ty ∷ kinds) e = let no : ⊥ = cc in absurd no
 
-types-length : (kinds : List ParamKind) → length (map kind_type kinds) ≡ length kinds
-types-length [] = refl
-types-length (kind ∷ kinds) = ap suc (types-length kinds)
-
 many_taken : (fs types : List Ty) (count : ℕ) (next : List Ty → List Ty → Left) → count ≡ length fs → of_many count (reverse fs ++ types) next ≡ next fs types
 many_taken fs types count next e =
     let n : count ≡ length (reverse fs) = e ∙ sym (length-reverse fs) in
-    let enough : nat_le (length (reverse fs)) (length (reverse fs ++ types)) ≡ true = nat_le-so _ _ (omega (arith, length-append (reverse fs) types)) in
+    let enough : nat_le (length (reverse fs)) (length (reverse fs ++ types)) ≡ true = le-leb _ _ (omega (arith, length-append (reverse fs) types)) in
     ap (λ c. of_many c (reverse fs ++ types) next) n
     ∙ ap (λ (b : Bool). if b then next (reverse (take (length (reverse fs)) (reverse fs ++ types))) (drop (length (reverse fs)) (reverse fs ++ types)) else None) enough
     ∙ ap (λ (l : List Ty). next (reverse l) (drop (length (reverse fs)) (reverse fs ++ types))) (take-append_seam (reverse fs) types)
-    ∙ ap (λ (l : List Ty). next l (drop (length (reverse fs)) (reverse fs ++ types))) (reverse-twice fs)
+    ∙ ap (λ (l : List Ty). next l (drop (length (reverse fs)) (reverse fs ++ types))) (reverse-reverse fs)
     ∙ ap (λ (l : List Ty). next fs l) (drop-append_seam (reverse fs) types)
 
 module _ (named : Named) (depth : ℕ) where
@@ -160,7 +146,7 @@ module _ (named : Named) (depth : ℕ) where
   pub wider_top : (at end : ℕ) (code : List Instr) (entry : Option (List Ty)) (a b : Ty) (types : List Ty) → serves a b ≡ true → Piece at code end entry (Some (a ∷ types))
       → Piece at code end entry (Some (b ∷ types))
   wider_top at end code entry a b types e f =
-      wider_piece at end code entry (a ∷ types) (b ∷ types) (both_true (serves a b) (pointwise serves types types) e (types_serve types)) f
+      wider_piece at end code entry (a ∷ types) (b ∷ types) (and_from (serves a b) (pointwise serves types types) e (types_serve types)) f
 
   -- code, and an instruction that takes what it left
   pub then_one : (at mid : ℕ) (code : List Instr) (i : Instr) (entry : Option (List Ty)) (types left : List Ty) → Piece at code mid entry (Some types)
@@ -232,8 +218,8 @@ module _ (named : Named) (depth : ℕ) where
   call_piece count known callee at mid code entry types low f =
       let fs : List Ty = map kind_type known.kinds in
       let signature : Signature = callee.signature in
-      let below = nat_lt-so known.number named.function callee.below in
-      let n : length signature.params ≡ length fs = ap length callee.params ∙ sym (types-length known.kinds) in
+      let below = lt-ltb known.number named.function callee.below in
+      let n : length signature.params ≡ length fs = ap length callee.params ∙ sym (length-map known.kinds kind_type) in
       let serve : serve_for fs signature.params ≡ true = ap (serve_for fs) callee.params ∙ kinds_serve known.kinds callee.scalars in
       let effect : left_by named (instr.Call known.number) (pushed known.kinds types) ≡ Some (known.ret ∷ types) =
       ap (λ (b : Bool). if b then left_by_call (slice_get named.signatures known.number) (pushed known.kinds types) else None) below
@@ -244,9 +230,9 @@ module _ (named : Named) (depth : ℕ) where
       let scalars : takes_scalars (slice_get named.signatures known.number) ≡ true =
       ap takes_scalars callee.there ∙ ap (list_all is_scalar) callee.params ∙ callee.scalars in
       let names : names_what_is_there named (instr.Call known.number) ≡ true =
-      both_true (nat_lt known.number named.function) (takes_scalars (slice_get named.signatures known.number)) below scalars in
+      and_from (nat_lt known.number named.function) (takes_scalars (slice_get named.signatures known.number)) below scalars in
       let height : length (pushed known.kinds types) ≤ depth =
-      omega (arith, length-append (reverse fs) types, length-reverse fs, types-length known.kinds, callee.count_is, low) in
+      omega (arith, length-append (reverse fs) types, length-reverse fs, length-map known.kinds kind_type, callee.count_is, low) in
       then_one at mid code (instr.Call known.number) entry (pushed known.kinds types) (known.ret ∷ types) f effect height refl names tt
 
   pub both_piece : (left right : Placed) (one_ty other_ty : Ty) (at : ℕ) (types : List Ty) → suc (length types) ≤ depth

@@ -1,5 +1,5 @@
 -- What the code of each kind of statement does, from what the code of its parts does.
-use Rattle.std.proofs.Common.{◌≡◌, ℕ, suc, ◌+◌, ◌<◌, ◌≤◌, List, [], ◌∷◌, ◌++◌, length, ℤ, Option, Some, None, refl, sym, ap, ◌∙◌, subst, arith, append_assoc, length-append}
+use Rattle.std.proofs.Common.{◌≡◌, ℕ, suc, ◌+◌, ◌<◌, ◌≤◌, List, [], ◌∷◌, ◌++◌, length, ℤ, Option, Some, refl, sym, ap, ◌∙◌, subst, arith, append_assoc, length-append}
 use Rattle.std.specs.Prelude.{slice_set, Ok, true, false, Bool, ◌&&◌}
 use Rattle.std.specs.Option.{option_and_then}
 use Rattle.sk_base.specs.declared.number.Ty.{Ty}
@@ -15,29 +15,16 @@ use Rattle.sk_isa.specs.Coded.{Routine}
 use Rattle.sk_isa.specs.Scheme.{Slot, Around, Compiled, compiled_of, Within, Standing, Emitted, Emitting, around_in, behind, joined, all_emitted, block_emitted, wanted_code, narrowed, assigned_code, emitting_step}
 use Rattle.sk_isa.specs.declared.code.Instr.{Instr}
 use Rattle.sk_isa.specs.declared.code.Instr.TheVariants as instr
-use Rattle.sk_codegen.specs.Plain.{Counts, Names, is_plain_expression, is_among, Judged, judged_step, judged_if, behind_if, all_behind, block_is_plain, is_some, is_some_and}
+use Rattle.sk_codegen.specs.Plain.{Counts, Names, is_plain_expression, is_among, Judged, judged_step, judged_if, behind_if, all_behind, block_is_plain}
 use Rattle.sk_codegen.proofs.Runs.{HasAt, has_front, has_back, leads_same, Gives}
 use Rattle.sk_codegen.proofs.ExpressionNodes.{wanted_gives}
-use Rattle.sk_codegen.proofs.Agreement.{Agree, name_bound, names_of, agree_declare, agree_behind, agree_length}
-use Rattle.sk_codegen.proofs.ExpressionRuns.{IsRun, and_left, and_right}
+use Rattle.sk_codegen.proofs.Bindings.{names_of}
+use Rattle.sk_codegen.proofs.Agreement.{Agree, name_bound, agree_declare, agree_behind, agree_length}
+use Rattle.sk_codegen.proofs.Truths.{and_left, and_right, is_some_is, and_then_is}
+use Rattle.sk_codegen.proofs.PlainParts.{behind_if_is}
+use Rattle.sk_codegen.proofs.Declared.{assigned_scope, assigned_slots}
+use Rattle.sk_codegen.proofs.ExpressionRuns.{IsRun}
 use Rattle.sk_codegen.proofs.Flows.{Runs, runs_before, runs_then, runs_nothing, runs_store, runs_return}
-
--- where a statement is plain only under a test
-pub behind_if_is : (test : Bool) (names after : Names) → behind_if test names ≡ Some after → (test ≡ true) × (names ≡ after)
-behind_if_is true names after e = (refl, cc)
-behind_if_is false names after e = let no : ⊥ = cc in absurd no
-
-pub is_some_is : {A : Type 0} (o : Option A) → is_some o ≡ true → (x : A) × (o ≡ Some x)
-is_some_is (Some x) e = (x, refl)
-is_some_is None e = let no : ⊥ = cc in absurd no
-
-pub is_some_and_is : {A : Type 0} (test : A → Bool) (o : Option A) → is_some_and test o ≡ true → (x : A) × (o ≡ Some x) × (test x ≡ true)
-is_some_and_is test (Some x) e = (x, refl, e)
-is_some_and_is test None e = let no : ⊥ = cc in absurd no
-
-pub and_then_is : {A B : Type 0} (f : A → Option B) (o : Option A) (y : B) → option_and_then f o ≡ Some y → (x : A) × (o ≡ Some x) × (f x ≡ Some y)
-and_then_is f (Some x) y e = (x, refl, e)
-and_then_is f None y e = let no : ⊥ = cc in absurd no
 
 module _ (routine : Routine) (counts : Counts) (within : Within) (callables : Callables) where
   -- what the names in scope and the slots are behind a statement
@@ -187,18 +174,11 @@ module _ (routine : Routine) (counts : Counts) (within : Within) (callables : Ca
         (wanted_value within.ret e is st values slots turns instr.Ret plain agree has) here;
   }
 
-  assigned_scope : (o : Option Slot) (c : Compiled) (st : Standing) → (assigned_code o c within st).scope ≡ st.scope
-  assigned_scope (Some slot) c st = refl
-  assigned_scope None c st = refl
-
-  assigned_slots : (o : Option Slot) (c : Compiled) (st : Standing) → length st.slots ≤ length (assigned_code o c within st).slots
-  assigned_slots (Some slot) c st = omega arith
-  assigned_slots None c st = omega arith
-
   pub assign_follows : (name : List ℕ) (e : Expr) → IsRunning e → Follows (doing_step (what.Assign name e)) (emitting_step (what.Assign name e)) (judged_step (what.Assign name e))
   assign_follows name e is = record {
     keeps = same_scope (judged_step (what.Assign name e)) (λ counts names. is_among name names && is_plain_expression e counts names) (emitting_step (what.Assign name e)) refl
-        (λ st. assigned_scope (bound_to name st.scope) (compiled_of e) st) (λ st. assigned_slots (bound_to name st.scope) (compiled_of e) st);
+        (λ st. assigned_scope (bound_to name st.scope) (compiled_of e) within st)
+        (λ st. omega (arith, ap length (assigned_slots (bound_to name st.scope) (compiled_of e) within st)));
     runs = λ st values slots turns after h agree room has. stores st values slots turns agree
         (behind_if_is (is_among name (names_of st.scope) && is_plain_expression e counts (names_of st.scope)) (names_of st.scope) after h).0 room has;
   }

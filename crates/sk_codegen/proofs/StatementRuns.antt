@@ -1,50 +1,28 @@
 -- The code of plain statements does what the statements do.
-use Rattle.std.proofs.Common.{◌≡◌, ℕ, ◌+◌, List, [], ◌∷◌, ◌++◌, length, map, Some, refl, sym, ap, subst, arith, length-append}
-use Rattle.std.specs.Prelude.{true, false, Bool, ◌&&◌, ◌||◌}
+use Rattle.std.proofs.Common.{◌≡◌, ℕ, ◌+◌, List, [], ◌∷◌, ◌++◌, length, map, refl, sym, ap, subst, arith, length-append}
+use Rattle.std.specs.Prelude.{false}
 use Rattle.sk_tree.specs.Evaluation.{Callables, Doing, in_block, in_sequence, left_behind, looped, doing_of, doing_step}
 use Rattle.sk_tree.specs.StatementLaws.{doing_what, doing-roll}
 use Rattle.sk_tree.specs.declared.tree.Expr.{Expr}
 use Rattle.sk_tree.specs.declared.tree.Statement.{Statement, Statement-F, roll-Statement, map-Statement, ind-Statement, fold-roll-Statement}
-use Rattle.sk_tree.specs.declared.tree.What.{What, What-F, roll-What, map-What, fold-What, fold-roll-What}
+use Rattle.sk_tree.specs.declared.tree.What.{What, What-F, roll-What, map-What, fold-roll-What}
 use Rattle.sk_tree.specs.declared.tree.What.TheOpen as what
 use Rattle.sk_isa.specs.Coded.{Routine}
 use Rattle.sk_isa.specs.Scheme.{Slot, Within, Standing, Emitted, Emitting, behind, only_code, all_emitted, emitting_of, emitting_step}
 use Rattle.sk_isa.specs.SchemeLaws.{emitting_what, emitting-roll}
-use Rattle.sk_codegen.specs.Plain.{Counts, Names, is_plain_expression, Judged, judged_of, judged_step, judged_if, all_behind, block_is_plain, loop_is_plain, is_some, is_some_and}
+use Rattle.sk_codegen.specs.Plain.{Counts, Names, Judged, judged_of, judged_step, judged_if, all_behind, loop_is_plain}
 use Rattle.sk_codegen.proofs.Runs.{has_front, has_back}
-use Rattle.sk_codegen.proofs.Agreement.{Agree, AreCallees, names_of, agree_behind, agree_length}
-use Rattle.sk_codegen.proofs.ExpressionRuns.{IsRun, expression_runs, and_left, and_right}
+use Rattle.sk_codegen.proofs.Bindings.{names_of}
+use Rattle.sk_codegen.proofs.Agreement.{Agree, AreCallees, agree_behind, agree_length}
+use Rattle.sk_codegen.proofs.PlainParts.{behind_if_is, IsLoop, for_parts}
+use Rattle.sk_codegen.proofs.Parts.{judged_what, statements_of, emittings, judgeds, plain_level}
+use Rattle.sk_codegen.proofs.ExpressionRuns.{IsRun, expression_runs}
 use Rattle.sk_codegen.proofs.Flows.{runs_then, runs_nothing}
-use Rattle.sk_codegen.proofs.StatementNodes.{Follows, same_scope, pair_follows, none_follows, block_follows, declare_follows, assign_follows, return_follows, behind_if_is, is_some_is, is_some_and_is}
+use Rattle.sk_codegen.proofs.StatementNodes.{Follows, same_scope, pair_follows, none_follows, block_follows, declare_follows, assign_follows, return_follows}
 use Rattle.sk_codegen.proofs.Choices.{IsBlock, IsFollowing, if_follows, if_else_follows}
-use Rattle.sk_codegen.proofs.Loops.{IsLoop, loop_at, loop_slots, loop_runs}
-
--- what is judged of a statement, apart from its line
-abbrev pub judged_what : What → Judged
-judged_what = fold-What Judged Judged judged_step (λ statement. statement.what)
+use Rattle.sk_codegen.proofs.Loops.{loop_at, loop_slots, loop_runs}
 
 module _ (routine : Routine) (counts : Counts) (within : Within) (callables : Callables) where
-  -- what is judged of a loop, by its parts
-  for_parts : (jf : Judged) (test : Expr) (step : Judged) (js : List Judged) (names : Names) → loop_is_plain jf test step js counts names ≡ true
-      → (inner : Names) × (jf.behind counts names ≡ Some inner) × IsLoop counts inner test js step
-  for_parts jf test step js names fine =
-      let parts : Names → Bool = λ inner. is_plain_expression test counts inner && block_is_plain js counts inner && is_some (step.behind counts inner) in
-      let head = and_left ((jf.declares || jf.assigns) && step.assigns) (is_some_and parts (jf.behind counts names)) fine in
-      let tail = and_right ((jf.declares || jf.assigns) && step.assigns) (is_some_and parts (jf.behind counts names)) fine in
-      let p = is_some_and_is parts (jf.behind counts names) tail in
-      let two = and_left (is_plain_expression test counts p.0 && block_is_plain js counts p.0) (is_some (step.behind counts p.0)) p.2 in
-      let q = is_some_is (step.behind counts p.0) (and_right (is_plain_expression test counts p.0 && block_is_plain js counts p.0) (is_some (step.behind counts p.0)) p.2) in (
-        p.0,
-        p.1,
-        record {
-          test_plain = and_left (is_plain_expression test counts p.0) (block_is_plain js counts p.0) two;
-          body_plain = and_right (is_plain_expression test counts p.0) (block_is_plain js counts p.0) two;
-          after = q.0;
-          step_plain = q.1;
-          assigns = and_right (jf.declares || jf.assigns) step.assigns head;
-        },
-      )
-
   for_follows : (df : Doing) (ef : Emitting) (jf : Judged) (test : Expr) (step : Doing) (emits : Emitting) (judged : Judged) (ds : List Doing) (es : List Emitting) (js : List Judged)
       → IsRun routine counts within.functions callables test → IsFollowing routine counts within callables df ef jf → IsFollowing routine counts within callables step emits judged
       → IsBlock routine counts within callables ds es js
@@ -58,7 +36,7 @@ module _ (routine : Routine) (counts : Counts) (within : Within) (callables : Ca
     runs = λ st values slots turns after h agree room has.
         let names = names_of st.scope in
         let plain = (behind_if_is (loop_is_plain jf test judged js counts names) names after h).0 in
-        let p = for_parts jf test judged js names plain in
+        let p = for_parts counts jf test judged js names plain in
         let one : Emitted = ef within st in
         let st1 : Standing = behind st one in
         let loop : Emitted = loop_at routine counts within callables test ds es js step emits judged st1 in
@@ -99,17 +77,8 @@ module _ (routine : Routine) (counts : Counts) (within : Within) (callables : Ca
   abbrev Followed : Type 0
   Followed = (s : Statement) × IsFollowed s
 
-  abbrev statements_of : List Followed → List Statement
-  statements_of ys = map (λ y. y.0) ys
-
   abbrev doings : List Followed → List Doing
   doings ys = map doing_of (statements_of ys)
-
-  abbrev emittings : List Followed → List Emitting
-  emittings ys = map emitting_of (statements_of ys)
-
-  abbrev judgeds : List Followed → List Judged
-  judgeds ys = map judged_of (statements_of ys)
 
   sequence_follows : (ys : List Followed)
       → Follows routine counts within callables (in_sequence (map doing_of (statements_of ys))) (all_emitted (map emitting_of (statements_of ys)))
@@ -123,9 +92,6 @@ module _ (routine : Routine) (counts : Counts) (within : Within) (callables : Ca
       → IsBlock routine counts within callables (map doing_of (statements_of ys)) (map emitting_of (statements_of ys)) (map judged_of (statements_of ys))
   blocks_follow ys =
       block_follows routine counts within callables (map doing_of (statements_of ys)) (map emitting_of (statements_of ys)) (map judged_of (statements_of ys)) (sequence_follows ys)
-
-  abbrev plain_level : What-F FollowedWhat Followed → What-F What Statement
-  plain_level y = map-What FollowedWhat Followed What Statement (λ w. w.0) (λ s. s.0) y
 
   level_follows : ((e : Expr) → IsRun routine counts within.functions callables e) → (y : What-F FollowedWhat Followed)
       → Follows routine counts within callables (doing_step (map-What What Statement Doing Doing doing_what doing_of (plain_level y)))

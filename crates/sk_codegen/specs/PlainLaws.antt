@@ -1,5 +1,5 @@
 -- What is judged of expressions and statements, in terms of their parts.
-use Rattle.std.proofs.Common.{◌≡◌, ℕ, ℤ, List, map, Bool}
+use Rattle.std.proofs.Common.{◌≡◌, ℕ, ℤ, List, Bool}
 use Rattle.sk_base.specs.declared.number.Op.{Op}
 use Rattle.sk_base.specs.declared.number.Ty.{Ty}
 use Rattle.sk_tree.specs.declared.tree.Expr.{Expr, Expr-F, roll-Expr, map-Expr, fold-roll-Expr}

@@ -7,7 +7,8 @@ use Rattle.std.specs.Prelude.{slice_set}
 use Rattle.sk_isa.specs.declared.code.Instr.TheVariants.{Zero, Jump}
 use Rattle.sk_codegen.specs.Names.{slot_of, callee_of, argument_code}
 use Rattle.sk_codegen.specs.declared.names.Place.{Place}
-use Rattle.sk_codegen.proofs.Arguments.{arguments-none, arguments-more, element_applied, left_cons, depth_more}
+use Rattle.sk_codegen.proofs.Lists.{left_cons}
+use Rattle.sk_codegen.proofs.Arguments.{arguments-none, arguments-more, element_applied, depth_more}
 use Rattle.sk_codegen.proofs.Filled.{behind_one, behind_two, behind_three, both_filled, choice_filled, either_filled}
 use Rattle.sk_codegen.proofs.expressions.+expression.Goals as goal
 

@@ -1,7 +1,7 @@
 use Rattle.std.proofs.Common.{◌≡◌, ◌∙◌, ◌+◌, ◌++◌, ℕ, List, ◌∷◌, suc, drop, ap, sym, arith, add-one}
 use Rattle.sk_tree.specs.declared.tree.Function.{Function}
 use Rattle.sk_isa.specs.Scheme.{Known, Around, known_of, known_after, codes_after, signatures_after, code_of, signature_of}
-use Rattle.sk_codegen.proofs.Arguments.{left_cons, appended_more}
+use Rattle.sk_codegen.proofs.Lists.{left_cons, appended_more}
 use Rattle.sk_codegen.proofs.functions.compile_all.Goals as goal
 
 pub loop-i-preserved : goal.loop-i-preserved

@@ -50,8 +50,8 @@ pub fn first(alloc: Global, text: &[u8]) -> Result<Program, FirstFault>
     Ok(program(alloc, &holes, &tokens)?)
 }
 
-/// A law: a text has one program of the first form at most.
-pub fn has_one_program()
+/// A law: no text reads as two programs of the first form.
+pub fn reads_as_one_first_form()
     ensures { (text : List ℕ) (one other : Program) → IsFirst text one → IsFirst text other → one ≡ other }
 {}
 

@@ -13,6 +13,11 @@
 //! - `spelling`: the bytes of a text that has these tokens and is plain.
 //! - `trees`: the program of a text of the form.
 //! - `words`: names and reserved words.
+//!
+//! Two laws say that what is read is the only reading:
+//!
+//! - `reads_as_one_program`: no list of tokens reads as two programs within the limits.
+//! - `reads_as_one_first_form`: no text reads as two programs of the first form.
 #![tactic(auto)]
 
 mod cursor;
@@ -37,5 +42,5 @@ mod trees;
 mod words;
 
 pub use fault::{Limited, ParseFault};
-pub use first_form::{FirstFault, first};
-pub use program::parse;
+pub use first_form::{FirstFault, first, reads_as_one_first_form};
+pub use program::{parse, reads_as_one_program};

@@ -50,6 +50,6 @@ pub fn parse(alloc: Global, tokens: &[Token]) -> Result<Program, ParseFault>
 }
 
 /// A law: no list of tokens reads as two programs within the limits.
-pub fn has_one_program()
+pub fn reads_as_one_program()
     ensures { (tokens : List Token) (one other : Program) → ReadsWithin tokens one → ReadsWithin tokens other → one ≡ other }
 {}

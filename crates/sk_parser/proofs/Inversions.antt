@@ -1,5 +1,5 @@
 -- What a step that was taken tells of the tokens.
-use Rattle.std.proofs.Common.{◌≡◌, ℕ, zero, suc, ◌+◌, ◌<◌, ◌≤◌, drop, Bool, true, false, cond, ◌||◌, ◌&&◌, ◌⊎◌, inl, inr, not, ◌==◌, nat_lt, List, [], ◌∷◌, map, ℤ, Option, Some, None, option_and_then, IsTrue, codes, refl, ap, sym, subst, ◌∙◌, arith, rules}
+use Rattle.std.proofs.Common.{◌≡◌, ℕ, zero, suc, ◌+◌, ◌<◌, ◌≤◌, drop, Bool, true, false, cond, ◌||◌, not, nat_lt, List, [], ◌∷◌, map, ℤ, Option, Some, None, option_and_then, IsTrue, codes, refl, ap, sym, subst, ◌∙◌, arith, rules}
 use Rattle.std.specs.List.{list_any}
 use denote.Enum.Bare.{same_true}
 use Rattle.sk_base.specs.declared.number.Ty.{Ty}
@@ -9,6 +9,7 @@ use Rattle.sk_tree.specs.Signs.{meant_by, type_word}
 use Rattle.sk_tree.specs.Words.{is_name}
 use Rattle.sk_tree.specs.contracts.token.Sign as signs
 use Rattle.sk_tree.specs.declared.token.Sign.{Sign}
+use Rattle.sk_tree.specs.declared.token.Sign.TheVariants as sign
 use Rattle.sk_tree.specs.declared.token.Token.{Token}
 use Rattle.sk_tree.specs.declared.token.TokenKind.{TokenKind}
 use Rattle.sk_tree.specs.declared.token.TokenKind.TheVariants as kind
@@ -18,6 +19,7 @@ use Rattle.sk_parser.specs.declared.cursor.Next.TheVariants as next
 use Rattle.sk_parser.specs.declared.keyword.Keyword.{Keyword}
 use Rattle.sk_parser.specs.declared.keyword.Keyword.TheVariants as key
 use Rattle.sk_parser.specs.Reading.{Place, Outcome, Parser, and_then, keyword_words, keyword_of, word_next, kind_next, front_of, front, advance, same_sign, same_keyword, is_sign, is_keyword, sees, sees_keyword, expect, expect_keyword, front_word, word_of, if_name, taken, name_of, name, word_in, number, number_of, text, text_of, ty, type_of, count_node, opened}
+use Rattle.sk_parser.proofs.Meanings.{word-of}
 
 -- ---- outcomes
 
@@ -32,11 +34,17 @@ or_else a (Some b) = b
 pub some-is : {A : Type 0} {x y : A} → Some x ≡ Some y → x ≡ y
 some-is {A} {x} h = ap (or_else x) h
 
-pub if_true : {A : Type 0} (b : Bool) (x y : A) → (b ≡ true → x ≡ y) → b ≡ true → cond b x y ≡ y
-if_true true x y f h = f h
-if_true false x y f h = refl
+-- what holds of one outcome holds of the same by another name
+pub along : {A : Type 0} {x y : A × Place} (P : A → Place → Type 0) → Some x ≡ Some y → P x.0 x.1 → P y.0 y.1
+along {A} P h s = subst (λ (z : A × Place). P z.0 z.1) (some-is h) s
 
 -- ---- tokens
+
+-- the lines of a list, by their places
+abbrev pub lines_of : List ℕ → spelling.TokenLines
+lines_of [] k = 0
+lines_of (line ∷ lines) zero = line
+lines_of (line ∷ lines) (suc k) = lines_of lines k
 
 pub record Takes (token : Token) (p q : Place) : Type 0 where
   pub tokens : p.rest ≡ token ∷ q.rest
@@ -94,7 +102,7 @@ unfolding expect
 expect-takes p s x h = go (sees s p) refl h
   where
     go : (b : Bool) → sees s p ≡ b → cond b (Some (tt, advance p)) None ≡ Some x → (line : ℕ) × Takes (spelling.sign_at s line) p x.1
-    go true is h = let (line, takes) = sign-takes p s (sees-sign p s is) in (line, subst (λ (y : Unit {0} × Place). Takes (spelling.sign_at s line) p y.1) (some-is h) takes)
+    go true is h = let (line, takes) = sign-takes p s (sees-sign p s is) in (line, along (λ _. Takes (spelling.sign_at s line) p) h takes)
     go false is h = absurd (cc)
 
 -- ---- words
@@ -211,44 +219,9 @@ key_word key.Skepu = codes "skepu"
 key_word key.Std = codes "std"
 key_word key.SkepuInput = codes "skepu_input"
 
-both-true : (a b : Bool) → (a && b) ≡ true → (a ≡ true) × (b ≡ true)
-both-true true b h = (refl, h)
-both-true false b h = absurd (cc)
-
-same-bytes : (a b : List ℕ) → same_bytes a b ≡ true → a ≡ b
-same-bytes [] [] h = refl
-same-bytes [] (y ∷ b) h = absurd (cc)
-same-bytes (x ∷ a) [] h = absurd (cc)
-same-bytes (x ∷ a) (y ∷ b) h =
-    let (here, later) = both-true (x == y) (same_bytes a b) h in
-    let head : x ≡ y = search (rules, here) in
-    ap (λ z. z ∷ a) head ∙ ap (λ c. y ∷ c) (same-bytes a b later)
-
-pub meant-first : {A : Type 0} (entry : List ℕ × A) (entries : List (List ℕ × A)) (w : List ℕ) (a : A) → meant_by (entry ∷ entries) w ≡ Some a
-    → ((w ≡ entry.0) × (a ≡ entry.1)) ⊎ (meant_by entries w ≡ Some a)
-meant-first {A} entry entries w a h = go (same_bytes entry.0 w) refl h
-  where
-    go : (b : Bool) → same_bytes entry.0 w ≡ b → cond b (Some entry.1) (meant_by entries w) ≡ Some a → ((w ≡ entry.0) × (a ≡ entry.1)) ⊎ (meant_by entries w ≡ Some a)
-    go true is h = inl (sym (same-bytes entry.0 w is), sym (some-is h))
-    go false is h = inr h
-
--- each entry has the word of its meaning
-abbrev AreWords : List (List ℕ × Keyword) → Type 0
-AreWords [] = Unit {0}
-AreWords (entry ∷ entries) = (entry.0 ≡ key_word entry.1) × AreWords entries
-
-meant-word : (entries : List (List ℕ × Keyword)) (w : List ℕ) (k : Keyword) → AreWords entries → meant_by entries w ≡ Some k → w ≡ key_word k
-meant-word [] w k are h = absurd (cc)
-meant-word (entry ∷ entries) w k are h = go (same_bytes entry.0 w) refl h (meant-word entries w k are.1)
-  where
-    go : (b : Bool) → same_bytes entry.0 w ≡ b → cond b (Some entry.1) (meant_by entries w) ≡ Some k
-        → (meant_by entries w ≡ Some k → w ≡ key_word k) → w ≡ key_word k
-    go true is h later = sym (same-bytes entry.0 w is) ∙ are.0 ∙ ap key_word (some-is h)
-    go false is h later = later h
-
 keyword-word : (w : List ℕ) (k : Keyword) → keyword_of w ≡ Some k → w ≡ key_word k
 unfolding keyword_of
-keyword-word w k h = meant-word keyword_words w k (refl, (refl, (refl, (refl, (refl, (refl, (refl, (refl, (refl, (refl, (refl, tt))))))))))) h
+keyword-word w k h = word-of key_word keyword_words w k (refl, (refl, (refl, (refl, (refl, (refl, (refl, (refl, (refl, (refl, (refl, tt))))))))))) h
 
 kind-keyword : (what : TokenKind) (k : Keyword) → kind_next what ≡ next.Keyword k → what ≡ kind.Word (key_word k)
 kind-keyword (kind.Word w) k h = go (keyword_of w) refl h
@@ -289,7 +262,7 @@ unfolding expect_keyword
 expect_keyword-takes p k x h = go (sees_keyword k p) refl h
   where
     go : (b : Bool) → sees_keyword k p ≡ b → cond b (Some (tt, advance p)) None ≡ Some x → (line : ℕ) × Takes (spelling.word (key_word k) line) p x.1
-    go true is h = let (line, takes) = keyword-takes p k (sees-keyword p k is) in (line, subst (λ (y : Unit {0} × Place). Takes (spelling.word (key_word k) line) p y.1) (some-is h) takes)
+    go true is h = let (line, takes) = keyword-takes p k (sees-keyword p k is) in (line, along (λ _. Takes (spelling.word (key_word k) line) p) h takes)
     go false is h = absurd (cc)
 
 type-front : (nx : Next) (t : Ty) → type_of nx ≡ Some t → (k : Keyword) × (nx ≡ next.Keyword k) × (key_word k ≡ type_word t)
@@ -325,10 +298,61 @@ count-counts p x h = go (nat_lt p.nodes 1024) refl h
     go : (b : Bool) → nat_lt p.nodes 1024 ≡ b → cond b (Some (tt, record p { nodes = p.nodes + 1 })) None ≡ Some x → Counts p x.1
     go true is h =
         let below : p.nodes < 1024 = search (rules, is) in
-        subst (λ (y : Unit {0} × Place). Counts p y.1) (some-is h) (record { rest = refl; nodes = refl; few = omega arith; instances = refl })
+        along (λ _. Counts p) h (record { rest = refl; nodes = refl; few = omega arith; instances = refl })
     go false is h = absurd (cc)
 
 pub opens : (left : ℕ) (p : Place) (x : Unit {0} × Place) → opened left p ≡ Some x → (inside : ℕ) × (left ≡ suc inside) × (x.1 ≡ p)
 unfolding opened
 opens zero p x h = absurd (cc)
 opens (suc left) p x h = (left, refl, sym (ap (λ y. y.1) (some-is h)))
+
+pub same-most : (a b : ℕ) → a ≡ b → b ≤ 1024 → a ≤ 1024
+same-most a b h few = omega arith
+
+-- ---- a word, a type in angle brackets, and a name
+
+pub record TakesTyped {A : Type 0} (entries : List (List ℕ × A)) (p : Place) (a : A) (t : Ty) (w : List ℕ) (q : Place) : Type 0 where
+  pub kw : List ℕ
+  pub l2 : ℕ
+  pub l3 : ℕ
+  pub l4 : ℕ
+  pub l5 : ℕ
+  pub l6 : ℕ
+  pub meant : meant_by entries kw ≡ Some a
+  pub free : IsTrue (is_name w)
+  pub tokens : p.rest ≡ spelling.word kw l2 ∷ spelling.sign_at sign.Lt l3 ∷ spelling.typed t l4 ∷ spelling.sign_at sign.Gt l5 ∷ spelling.word w l6 ∷ q.rest
+  pub instances : q.instances ≡ p.instances
+
+pub typed-takes : {A B : Type 0} (entries : List (List ℕ × A)) (behind : A → Ty → List ℕ → Parser B) (p : Place) (y : B × Place)
+    → and_then (word_in entries p) (λ a r. and_then (expect sign.Lt r) (λ _ r. and_then (ty r) (λ t r. and_then (expect sign.Gt r) (λ _ r. and_then (name r) (behind a t))))) ≡ Some y
+    → (a : A) × (t : Ty) × (w : List ℕ) × (q : Place) × TakesTyped entries p a t w q × (behind a t w q ≡ Some y)
+typed-takes entries behind p y h =
+    let (k, kind-is, h) = bound (word_in entries p) _ y h in
+    let (l2, kw, meant, kind) = word_in-takes entries p k kind-is in
+    let (u3, lt-is, h) = bound (expect sign.Lt k.1) _ y h in
+    let (l3, lt) = expect-takes k.1 sign.Lt u3 lt-is in
+    let (t, ty-is, h) = bound (ty u3.1) _ y h in
+    let (l4, typing) = ty-takes u3.1 t ty-is in
+    let (u5, gt-is, h) = bound (expect sign.Gt t.1) _ y h in
+    let (l5, gt) = expect-takes t.1 sign.Gt u5 gt-is in
+    let (w, name-is, h) = bound (name u5.1) _ y h in
+    let (l6, free, naming) = name-takes u5.1 w name-is in (
+      k.0,
+      t.0,
+      w.0,
+      w.1,
+      record {
+        kw = kw;
+        l2 = l2;
+        l3 = l3;
+        l4 = l4;
+        l5 = l5;
+        l6 = l6;
+        meant = meant;
+        free = free;
+        tokens = kind.tokens ∙ ap (λ r. spelling.word kw l2 ∷ r) (lt.tokens ∙ ap (λ r. spelling.sign_at sign.Lt l3 ∷ r) (typing.tokens ∙ ap (λ r. spelling.typed t.0 l4 ∷ r)
+            (gt.tokens ∙ ap (λ r. spelling.sign_at sign.Gt l5 ∷ r) naming.tokens)));
+        instances = naming.instances ∙ gt.instances ∙ typing.instances ∙ lt.instances ∙ kind.instances;
+      },
+      h,
+    )

@@ -15,14 +15,15 @@ use Rattle.sk_tree.specs.declared.tree.Param.{Param}
 use Rattle.sk_tree.specs.declared.tree.ParamKind.{ParamKind}
 use Rattle.sk_tree.specs.declared.tree.ParamKind.TheVariants.{Scalar}
 use Rattle.sk_tree.specs.declared.tree.Program.{Program}
-use Rattle.sk_parser.specs.Reading.{Place, keyword_of, front, front_of, advance, sees, after, expect, expect_keyword, sees_keyword, same_sign, same_keyword, is_sign, front_word}
-use Rattle.sk_parser.specs.ReadingStatements.{front_line}
+use Rattle.sk_parser.specs.Reading.{Place, keyword_of, front, front_of, advance, sees, after, expect, expect_keyword, sees_keyword, same_sign, same_keyword, is_sign, front_word, front_line}
 use Rattle.sk_parser.specs.ReadingPrograms as reading
-use Rattle.sk_parser.proofs.Inversions.{meant-first, some-is}
-use Rattle.sk_parser.proofs.StatementReads.{modes-mapped}
+use Rattle.sk_parser.proofs.Commas.{commas_longer}
+use Rattle.sk_parser.proofs.Inversions.{some-is}
+use Rattle.sk_parser.proofs.Meanings.{meant-first, modes-mapped}
 use Rattle.sk_parser.proofs.StatementSteps.{word_in-ok}
-use Rattle.sk_parser.proofs.StatementsRead.{block-reads, block_longer}
+use Rattle.sk_parser.proofs.StatementTokens.{block_longer}
 use Rattle.sk_parser.proofs.Steps.{at, name-ok, ty-ok}
+use Rattle.sk_parser.proofs.StatementsRead.{block-reads}
 
 below-is : (a b : ℕ) → a < b → nat_lt a b ≡ true
 below-is a b h = search rules
@@ -74,10 +75,7 @@ parameter_longer (Parameter.ViewParameter lines k meant t w) r = omega arith
 parameter_longer (Parameter.ConstParameter line lines k meant t w) r = omega arith
 
 parameters_longer : (l : List (Parameter × ℕ)) (r : List Token) → length l + length r ≤ length (with_commas parameter_in_front l r)
-parameters_longer [] r = omega arith
-parameters_longer (a ∷ []) r = omega (arith, parameter_longer a.0 r)
-parameters_longer (a ∷ b ∷ l) r =
-    omega (arith, parameter_longer a.0 (sign_at sign.Comma a.1 ∷ with_commas parameter_in_front (b ∷ l) r), parameters_longer (b ∷ l) r)
+parameters_longer l r = commas_longer parameter_in_front parameter_longer l r
 
 parameters_from-ok : (l : List (Parameter × ℕ)) → 0 < length l → each (λ written. IsLawfulParameter written.0) l → (line turns : ℕ) (found : List Param) → length found + length l ≤ 64
     → (r : List Token) (n i : ℕ) → length l ≤ turns

@@ -1,5 +1,5 @@
 -- What is read as a program has a lawful spelling that keeps the limits.
-use Rattle.std.proofs.Common.{◌≡◌, ℕ, zero, suc, ◌+◌, ◌<◌, ◌≤◌, Bool, true, false, cond, nat_lt, List, [], ◌∷◌, ◌++◌, length, map, Option, Some, None, option_map, IsTrue, codes, refl, ap, sym, subst, ◌∙◌, arith, rules, append_assoc, append-nil, length-append}
+use Rattle.std.proofs.Common.{◌≡◌, ℕ, zero, suc, ◌+◌, ◌<◌, ◌≤◌, Bool, true, false, cond, nat_lt, List, [], ◌∷◌, ◌++◌, length, map, Option, Some, None, option_map, codes, refl, ap, sym, ◌∙◌, arith, rules, append_assoc, append-nil, length-append}
 use Rattle.sk_base.specs.declared.number.Ty.{Ty}
 use Rattle.sk_tree.specs.ExpressionSpelling.{sign_at, word, typed, with_commas, each}
 use Rattle.sk_tree.specs.Grammar.{Parameter, Definition, parameter_in_front, parameter_tree, IsLawfulParameter, definition_in_front, definition_tree, IsLawfulDefinition, Spelling, tokens_in, IsLawfulSpelling}
@@ -7,27 +7,24 @@ use Rattle.sk_tree.specs.Limits.{DefinitionFits, ReadsWithin, block_instances, i
 use Rattle.sk_tree.specs.Signs as signs
 use Rattle.sk_tree.specs.Signs.{meant_by, index_words}
 use Rattle.sk_tree.specs.StatementSpelling.{block_in_front, block_tree}
-use Rattle.sk_tree.specs.Words.{is_name}
 use Rattle.sk_tree.specs.declared.token.Sign.TheVariants as sign
 use Rattle.sk_tree.specs.declared.token.Token.{Token}
 use Rattle.sk_tree.specs.declared.tree.Function.{Function}
 use Rattle.sk_tree.specs.declared.tree.Param.{Param}
-use Rattle.sk_tree.specs.declared.tree.ParamKind.{ParamKind}
-use Rattle.sk_tree.specs.declared.tree.ParamKind.TheVariants.{Scalar}
 use Rattle.sk_tree.specs.declared.tree.Program.{Program}
 use Rattle.sk_parser.specs.declared.cursor.Next.{Next}
 use Rattle.sk_parser.specs.declared.cursor.Next.TheVariants as next
+use Rattle.sk_parser.specs.declared.function.View.{View}
 use Rattle.sk_parser.specs.declared.keyword.Keyword.TheVariants as key
 use Rattle.sk_tree.specs.declared.token.TokenKind.{TokenKind}
 use Rattle.sk_tree.specs.declared.token.TokenKind.TheVariants as kind
 use Rattle.sk_tree.specs.declared.tree.Statement.{Statement}
 use Rattle.sk_parser.specs.declared.keyword.Keyword.{Keyword}
-use Rattle.sk_parser.specs.Reading.{front_of, word_next, kind_next, keyword_of, Place, Outcome, and_then, front, advance, sees, after, expect, expect_keyword, name, word_in, ty, start_of}
-use Rattle.sk_parser.specs.ReadingStatements.{front_line, line_of, block, part_below}
+use Rattle.sk_parser.specs.Reading.{front_of, word_next, kind_next, keyword_of, Place, Outcome, and_then, front, advance, sees, after, expect, expect_keyword, name, word_in, ty, start_of, line_of, front_line}
+use Rattle.sk_parser.specs.ReadingStatements.{block, part_below}
 use Rattle.sk_parser.specs.ReadingPrograms as reading
-use Rattle.sk_parser.proofs.ExpressionSound.{lines_of}
-use Rattle.sk_parser.proofs.Inversions.{bound, some-is, Takes, sign-takes, sees-sign, expect-takes, name-takes, word_in-takes, ty-takes, keyword-takes, expect_keyword-takes}
-use Rattle.sk_parser.proofs.ShortSound.{mapped}
+use Rattle.sk_parser.proofs.Inversions.{lines_of, bound, along, some-is, Takes, sign-takes, sees-sign, expect-takes, name-takes, word_in-takes, ty-takes, keyword-takes, expect_keyword-takes, same-most, TakesTyped, typed-takes}
+use Rattle.sk_parser.proofs.Meanings.{mapped}
 use Rattle.sk_parser.proofs.StatementsSound.{block-sound, parts-sound}
 
 pub record IsParameter (p : Place) (made : Param) (q : Place) : Type 0 where
@@ -37,9 +34,6 @@ pub record IsParameter (p : Place) (made : Param) (q : Place) : Type 0 where
   pub is_tree : parameter_tree spelling ≡ made
   pub instances : q.instances ≡ p.instances
 
-along : {p : Place} (x y : Param × Place) → Some x ≡ Some y → IsParameter p x.0 x.1 → IsParameter p y.0 y.1
-along {p} x y h s = subst (λ (z : Param × Place). IsParameter p z.0 z.1) (some-is h) s
-
 scalar-sound : (p : Place) (x : Param × Place) → reading.scalar p ≡ Some x → IsParameter p x.0 x.1
 unfolding reading.scalar
 scalar-sound p x h =
@@ -47,7 +41,7 @@ scalar-sound p x h =
     let (l0, typing) = ty-takes p t ty-is in
     let (w, name-is, h) = bound (name t.1) _ x h in
     let (l1, free, naming) = name-takes t.1 w name-is in
-    along (record { kind = Scalar t.0; name = w.0 }, w.1) x h (record {
+    along (IsParameter p) h (record {
       spelling = Parameter.ScalarParameter (lines_of (l0 ∷ l1 ∷ [])) t.0 w.0;
       lawful = free;
       tokens = typing.tokens ∙ ap (λ z. typed t.0 l0 ∷ z) naming.tokens;
@@ -56,49 +50,24 @@ scalar-sound p x h =
     })
 
 record IsViewed (p : Place) (made : Param) (q : Place) : Type 0 where
-  kw : List ℕ
-  l2 : ℕ
-  l3 : ℕ
-  l4 : ℕ
-  l5 : ℕ
-  l6 : ℕ
-  meant : Ty → ParamKind
+  view : View
   t : Ty
   w : List ℕ
-  view : meant_by signs.view_words kw ≡ Some meant
-  free : IsTrue (is_name w)
-  tokens : p.rest ≡ word kw l2 ∷ sign_at sign.Lt l3 ∷ typed t l4 ∷ sign_at sign.Gt l5 ∷ word w l6 ∷ q.rest
-  is_tree : made ≡ record { kind = meant t; name = w }
-  instances : q.instances ≡ p.instances
+  typed_name : TakesTyped reading.view_words p view t w q
+  is_view : meant_by signs.view_words typed_name.kw ≡ Some (reading.seen_as view)
+  is_tree : made ≡ record { kind = reading.seen_as view t; name = w }
 
 viewed-sound : (p : Place) (x : Param × Place) → reading.viewed p ≡ Some x → IsViewed p x.0 x.1
 unfolding reading.viewed
 viewed-sound p x h =
-    let (k, kind-is, h) = bound (word_in reading.view_words p) _ x h in
-    let (l2, kw, meant, kind) = word_in-takes reading.view_words p k kind-is in
-    let (u3, lt-is, h) = bound (expect sign.Lt k.1) _ x h in
-    let (l3, lt) = expect-takes k.1 sign.Lt u3 lt-is in
-    let (t, ty-is, h) = bound (ty u3.1) _ x h in
-    let (l4, typing) = ty-takes u3.1 t ty-is in
-    let (u5, gt-is, h) = bound (expect sign.Gt t.1) _ x h in
-    let (l5, gt) = expect-takes t.1 sign.Gt u5 gt-is in
-    let (w, name-is, h) = bound (name u5.1) _ x h in
-    let (l6, free, naming) = name-takes u5.1 w name-is in
-    subst (λ (z : Param × Place). IsViewed p z.0 z.1) (some-is h) (record {
-      kw = kw;
-      l2 = l2;
-      l3 = l3;
-      l4 = l4;
-      l5 = l5;
-      l6 = l6;
-      meant = reading.seen_as k.0;
-      t = t.0;
-      w = w.0;
-      view = mapped reading.seen_as reading.view_words kw k.0 meant;
-      free = free;
-      tokens = kind.tokens ∙ ap (λ z. word kw l2 ∷ z) (lt.tokens ∙ ap (λ z. sign_at sign.Lt l3 ∷ z) (typing.tokens ∙ ap (λ z. typed t.0 l4 ∷ z) (gt.tokens ∙ ap (λ z. sign_at sign.Gt l5 ∷ z) naming.tokens)));
+    let (view, t, w, q, c, h) = typed-takes {B = Param} reading.view_words (λ k t w r. Some (record { kind = reading.seen_as k t; name = w }, r)) p x h in
+    along (IsViewed p) h (record {
+      view = view;
+      t = t;
+      w = w;
+      typed_name = c;
+      is_view = mapped reading.seen_as reading.view_words c.kw view c.meant;
       is_tree = refl;
-      instances = naming.instances ∙ gt.instances ∙ typing.instances ∙ lt.instances ∙ kind.instances;
     })
 
 qualified-sound : (p : Place) → front p ≡ next.Keyword key.Skepu → (x : Param × Place) → reading.qualified p ≡ Some x → IsParameter p x.0 x.1
@@ -116,7 +85,7 @@ qualified-sound p first x h =
         let (l2, kw, meant, kind) = word_in-takes index_words q k kind-is in
         let (w, name-is, h) = bound (name k.1) _ x h in
         let (l3, free, naming) = name-takes k.1 w name-is in
-        along (record { kind = k.0; name = w.0 }, w.1) x h (record {
+        along (IsParameter p) h (record {
           spelling = Parameter.IndexParameter (lines_of (l0 ∷ l1 ∷ l2 ∷ l3 ∷ [])) kw k.0 w.0;
           lawful = (meant, free);
           tokens = to ∙ ap (λ z. word (codes "skepu") l0 ∷ sign_at sign.Path l1 ∷ z) (kind.tokens ∙ ap (λ z. word kw l2 ∷ z) naming.tokens);
@@ -125,12 +94,13 @@ qualified-sound p first x h =
         })
     go q l0 l1 to instances false h =
         let v = viewed-sound q x h in
+        let d = v.typed_name in
         record {
-          spelling = Parameter.ViewParameter (lines_of (l0 ∷ l1 ∷ v.l2 ∷ v.l3 ∷ v.l4 ∷ v.l5 ∷ v.l6 ∷ [])) v.kw v.meant v.t v.w;
-          lawful = (v.view, v.free);
-          tokens = to ∙ ap (λ z. word (codes "skepu") l0 ∷ sign_at sign.Path l1 ∷ z) v.tokens;
+          spelling = Parameter.ViewParameter (lines_of (l0 ∷ l1 ∷ d.l2 ∷ d.l3 ∷ d.l4 ∷ d.l5 ∷ d.l6 ∷ [])) d.kw (reading.seen_as v.view) v.t v.w;
+          lawful = (v.is_view, d.free);
+          tokens = to ∙ ap (λ z. word (codes "skepu") l0 ∷ sign_at sign.Path l1 ∷ z) d.tokens;
           is_tree = sym v.is_tree;
-          instances = v.instances ∙ instances;
+          instances = d.instances ∙ instances;
         }
 
 constant-sound : (p : Place) → front p ≡ next.Keyword key.Const → (x : Param × Place) → reading.constant p ≡ Some x → IsParameter p x.0 x.1
@@ -142,12 +112,13 @@ constant-sound p first x h =
     let (u, path-is, h) = bound (expect sign.Path s.1) _ x h in
     let (l1, path) = expect-takes s.1 sign.Path u path-is in
     let v = viewed-sound u.1 x h in
+    let d = v.typed_name in
     record {
-      spelling = Parameter.ConstParameter l (lines_of (l0 ∷ l1 ∷ v.l2 ∷ v.l3 ∷ v.l4 ∷ v.l5 ∷ v.l6 ∷ [])) v.kw v.meant v.t v.w;
-      lawful = (v.view, v.free);
-      tokens = const.tokens ∙ ap (λ z. word (codes "const") l ∷ z) (skepu.tokens ∙ ap (λ z. word (codes "skepu") l0 ∷ z) (path.tokens ∙ ap (λ z. sign_at sign.Path l1 ∷ z) v.tokens));
+      spelling = Parameter.ConstParameter l (lines_of (l0 ∷ l1 ∷ d.l2 ∷ d.l3 ∷ d.l4 ∷ d.l5 ∷ d.l6 ∷ [])) d.kw (reading.seen_as v.view) v.t v.w;
+      lawful = (v.is_view, d.free);
+      tokens = const.tokens ∙ ap (λ z. word (codes "const") l ∷ z) (skepu.tokens ∙ ap (λ z. word (codes "skepu") l0 ∷ z) (path.tokens ∙ ap (λ z. sign_at sign.Path l1 ∷ z) d.tokens));
       is_tree = sym v.is_tree;
-      instances = v.instances ∙ path.instances ∙ skepu.instances;
+      instances = d.instances ∙ path.instances ∙ skepu.instances;
     }
 
 parameter-sound : (p : Place) (x : Param × Place) → reading.parameter p ≡ Some x → IsParameter p x.0 x.1
@@ -252,7 +223,7 @@ function-sound p x h =
     let (b, block-is, h) = bound (block 64 (part_below 64) c.1) _ x h in
     let s = block-sound 64 (parts-sound 64) c.1 b block-is in
     let before : c.1.instances ≡ p.instances = closing.instances ∙ of-parameters ∙ opening.instances ∙ naming.instances ∙ typing.instances in
-    subst (λ (z : Function × Place). IsDefinition p z.0 z.1) (some-is h) (record {
+    along (IsDefinition p) h (record {
       spelling = record { at = lines_of (l0 ∷ l1 ∷ l2 ∷ l3 ∷ []); ret = t.0; name = w.0; params = l; body = s.spelling };
       lawful = (free, lawful, s.lawful);
       fits = (few, s.fits);
@@ -261,14 +232,11 @@ function-sound p x h =
       is_tree = ap (λ n. made n t.0 w.0 (map (λ written. parameter_tree written.0) l) (block_tree s.spelling)) (sym (ap line_of typing.tokens))
           ∙ ap (λ ps. made (line_of p.rest) t.0 w.0 ps (block_tree s.spelling)) all ∙ ap (λ body. made (line_of p.rest) t.0 w.0 a.0 body) s.is_tree;
       instances = s.instances ∙ ap (λ n. n + block_instances s.spelling) before;
-      few = λ few. s.few (most before few);
+      few = λ few. s.few (same-most c.1.instances p.instances before few);
     })
   where
     made : (line : ℕ) (t : Ty) (w : List ℕ) → List Param → List Statement → Function
     made line t w ps body = record { line = line; ret = t; name = w; params = ps; body = body }
-
-    most : {a b : ℕ} → a ≡ b → b ≤ 1024 → a ≤ 1024
-    most same few = omega (arith, same, few)
 
 word-not_end : (o : Option Keyword) → reading.is_end (word_next o) ≡ true → ⊥
 word-not_end None h = cc

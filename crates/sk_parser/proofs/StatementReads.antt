@@ -1,5 +1,5 @@
 -- Each lawful spelling of a statement without others in it is read.
-use Rattle.std.proofs.Common.{◌≡◌, ℕ, zero, suc, ◌+◌, ◌<◌, ◌≤◌, Bool, true, false, cond, nat_lt, inl, inr, List, [], ◌∷◌, ◌++◌, length, map, ℤ, Some, codes, refl, ap, sym, ◌∙◌, arith, rules, append_assoc}
+use Rattle.std.proofs.Common.{◌≡◌, ℕ, zero, suc, ◌+◌, ◌<◌, ◌≤◌, true, false, nat_lt, inl, inr, List, [], ◌∷◌, ◌++◌, length, map, ℤ, Some, codes, refl, ap, sym, ◌∙◌, arith, rules, append_assoc}
 use Rattle.sk_base.specs.declared.number.Ty.{Ty}
 use Rattle.sk_base.specs.declared.number.Ty.TheVariants.{Int, Long}
 use Rattle.sk_tree.specs.ExpressionSpelling.{Expression, Arguments, in_front, arguments_in_front, tree_in, trees_in, IsLawful, AreLawful, IsName, TokenLines, sign_at, word, typed, string, with_commas, in_sequence, each}
@@ -21,14 +21,15 @@ use Rattle.sk_parser.specs.declared.setting.SettingWord.{SettingWord}
 use Rattle.sk_parser.specs.declared.setting.SettingWord.TheVariants as words
 use Rattle.sk_tree.specs.declared.tree.Setting.TheVariants as setting
 use Rattle.sk_parser.specs.Reading.{Place, and_then, keyword_of, front, front_of, advance, sees, after, expect, expect_keyword, sees_keyword, same_sign, same_keyword, text, count_instance, opened}
-use Rattle.sk_parser.specs.ReadingStatements as reading
+use Rattle.sk_parser.specs.ReadingAssignments as assignments
+use Rattle.sk_parser.specs.ReadingForms as reading
 use Rattle.sk_parser.proofs.Ends.{Ends}
+use Rattle.sk_parser.proofs.Commas.{commas_longer}
 use Rattle.sk_parser.proofs.ExpressionReads.{longer}
 use Rattle.sk_parser.proofs.StatementSteps.{word_in-ok, value-ok, sum-ok, value_inside-ok, places-ok, target-ok, opens_place, assignment-ok}
 use Rattle.sk_base.specs.declared.choice.EdgeMode.{EdgeMode}
 use Rattle.sk_base.specs.declared.choice.EdgeMode.TheVariants.{Duplicate, Cyclic, Pad as PadEdge}
-use Rattle.sk_tree.specs.Lexemes.{same_bytes}
-use Rattle.sk_parser.proofs.Inversions.{some-is, meant-first}
+use Rattle.sk_parser.proofs.Meanings.{meant-first, modes-mapped}
 use Rattle.sk_parser.proofs.Starts.{can_start, starts}
 use Rattle.sk_parser.proofs.Steps.{at, keyword-none, name-ok, number-ok, ty-ok}
 
@@ -39,20 +40,20 @@ text-ok t line r n i = refl
 -- ---- declarations
 
 pub declaration-ok : (lines : TokenLines) (t : Ty) (w : List ℕ) (s : Expression) → IsName w → IsLawful s → (left : ℕ) → IsSmall s left → (r : List Token) → Ends 11 r → (n i : ℕ)
-    → reading.declaration left (at (spelling.simple_in_front (spelling.Simple.Declare lines t w s) r) n i) ≡ Some (what.Declare t w (tree_in s), at r (nodes_in s) i)
-unfolding reading.declaration front advance expect sees same_sign
+    → assignments.declaration left (at (spelling.simple_in_front (spelling.Simple.Declare lines t w s) r) n i) ≡ Some (what.Declare t w (tree_in s), at r (nodes_in s) i)
+unfolding assignments.declaration front advance expect sees same_sign
 declaration-ok lines t w s free lawful left small r h n i =
     rw (ty-ok t (lines 0) (word w (lines 1) ∷ sign_at sign.Eq (lines 2) ∷ in_front s r) n i)
     (rw (name-ok w (lines 1) (sign_at sign.Eq (lines 2) ∷ in_front s r) n i free) (rw (value-ok s lawful left small r h n i) refl))
 
 -- by the type that comes first
-by-type : (t : Ty) (line : ℕ) (left : ℕ) (p : Place) (r : List Token) → front_of r ≡ front_of (typed t line ∷ []) → reading.simple_by left (front_of r) p ≡ reading.declaration left p
+by-type : (t : Ty) (line : ℕ) (left : ℕ) (p : Place) (r : List Token) → front_of r ≡ front_of (typed t line ∷ []) → assignments.simple_by left (front_of r) p ≡ assignments.declaration left p
 unfolding keyword_of
 by-type Int line left p r h = rw h refl
 by-type Long line left p r h = rw h refl
 
 not-type : (left : ℕ) (a : spelling.Assignment) → spelling.IsLawfulAssignment a → (r : List Token) (p : Place)
-    → reading.simple_by left (front_of (spelling.assignment_in_front a r)) p ≡ reading.assignment left p
+    → assignments.simple_by left (front_of (spelling.assignment_in_front a r)) p ≡ assignments.assignment left p
 not-type left (spelling.Assignment.Assign (spelling.Target.Variable line w) line' sg how s) lawful r p = rw (keyword-none w lawful.0) refl
 not-type left (spelling.Assignment.Assign (spelling.Target.Element lines w ss) line' sg how s) lawful r p = rw (keyword-none w lawful.0.0) refl
 not-type left (spelling.Assignment.Assign (spelling.Target.Bracketed lines w place) line' sg how s) lawful r p = rw (keyword-none w lawful.0.0) refl
@@ -62,8 +63,8 @@ not-type left (spelling.Assignment.StepAfter (spelling.Target.Bracketed lines w 
 not-type left (spelling.Assignment.StepBefore line sg op t) lawful r p = refl
 
 pub simple-ok : (s : spelling.Simple) → spelling.IsLawfulSimple s → (left : ℕ) → SimpleFits s left → (r : List Token) → Ends 11 r → opens_place (front_of r) ≡ false → (n i : ℕ)
-    → (m : ℕ) × (reading.simple left (at (spelling.simple_in_front s r) n i) ≡ Some (spelling.simple_tree s, at r m i))
-unfolding reading.simple front
+    → (m : ℕ) × (assignments.simple left (at (spelling.simple_in_front s r) n i) ≡ Some (spelling.simple_tree s, at r m i))
+unfolding assignments.simple front
 simple-ok (spelling.Simple.Declare lines t w s) lawful left fits r h h' n i =
     let tokens = spelling.simple_in_front (spelling.Simple.Declare lines t w s) r in
     (nodes_in s, by-type t (lines 0) left (at tokens n i) tokens refl ∙ declaration-ok lines t w s lawful.0 lawful.1 left fits r h n i)
@@ -74,9 +75,7 @@ simple-ok (spelling.Simple.Assigning a) lawful left fits r h h' n i =
 -- ---- lists
 
 pub numbers-tokens : (l : List ((ℕ × Ty × ℤ) × ℕ)) (r : List Token) → 0 < length l → length r < length (with_commas spelling.a_number l r)
-numbers-tokens [] r some = absurd (omega arith)
-numbers-tokens (a ∷ []) r some = omega arith
-numbers-tokens (a ∷ b ∷ l) r some = omega (arith, numbers-tokens (b ∷ l) r (omega arith))
+numbers-tokens l r some = omega (arith, commas_longer spelling.a_number (λ w r. omega arith) l r)
 
 numbers_from-ok : (l : List ((ℕ × Ty × ℤ) × ℕ)) → 0 < length l → (line turns : ℕ) (found : List ℤ) (r : List Token) (n i : ℕ)
     → length (with_commas spelling.a_number l (sign_at sign.Gt line ∷ r)) ≤ turns
@@ -93,9 +92,7 @@ numbers_from-ok (a ∷ b ∷ l) some line (suc turns) found r n i enough =
     ∙ ap (λ k. Some (k, at (sign_at sign.Gt line ∷ r) n i)) (append_assoc found (a.0.2 ∷ []) (map (λ written. written.0.2) (b ∷ l))))
 
 pub names-tokens : (l : List ((ℕ × List ℕ) × ℕ)) (r : List Token) → 0 < length l → length r < length (with_commas spelling.a_name l r)
-names-tokens [] r some = absurd (omega arith)
-names-tokens (a ∷ []) r some = omega arith
-names-tokens (a ∷ b ∷ l) r some = omega (arith, names-tokens (b ∷ l) r (omega arith))
+names-tokens l r some = omega (arith, commas_longer spelling.a_name (λ w r. omega arith) l r)
 
 names_from-ok : (l : List ((ℕ × List ℕ) × ℕ)) → 0 < length l → each (λ written. IsName written.0.1) l → (line turns : ℕ) (found : List (List ℕ)) (r : List Token) (n i : ℕ)
     → length (with_commas spelling.a_name l (sign_at sign.CloseParen line ∷ r)) ≤ turns
@@ -223,7 +220,7 @@ set_value-ok lines w k sets s free meant lawful (suc left) fits r n i = (
     inside : List Token
     inside = in_front s end
 
-    read : reading.value_inside (suc left) (at inside n i) ≡ Some (tree_in s, at end (nodes_in s) i)
+    read : assignments.value_inside (suc left) (at inside n i) ≡ Some (tree_in s, at end (nodes_in s) i)
     read = value_inside-ok s lawful left fits end tt n i
 
 pub set_overlap-ok : (lines : TokenLines) (w : List ℕ) (ss : Arguments) → IsName w → AreLawful ss → (left : ℕ) → Opened (AreSmall ss) left → (r : List Token) (n i : ℕ)
@@ -240,17 +237,6 @@ mode-ok : {A : Type 0} (lines : TokenLines) (family : List (List ℕ × Unit {0}
 unfolding reading.mode front advance sees expect same_sign keyword_of expect_keyword sees_keyword same_keyword
 mode-ok lines family modes f m a r n i is-family is-mode =
     rw (word_in-ok family f tt (lines 6) (sign_at sign.Path (lines 7) ∷ word m (lines 8) ∷ r) n i is-family) (rw (word_in-ok modes m a (lines 8) r n i is-mode) refl)
-
-pub modes-mapped : {A B : Type 0} (f : A → B) (entries : List (List ℕ × A)) (w : List ℕ) (b : B) → meant_by (map (λ entry. (entry.0, f entry.1)) entries) w ≡ Some b
-    → (a : A) × (meant_by entries w ≡ Some a) × (f a ≡ b)
-modes-mapped f [] w b h = absurd (cc)
-modes-mapped {A} f (entry ∷ entries) w b h = go (same_bytes entry.0 w) refl h (modes-mapped f entries w b)
-  where
-    go : (c : Bool) → same_bytes entry.0 w ≡ c → cond c (Some (f entry.1)) (meant_by (map (λ entry. (entry.0, f entry.1)) entries) w) ≡ Some b
-        → (meant_by (map (λ entry. (entry.0, f entry.1)) entries) w ≡ Some b → (a : A) × (meant_by entries w ≡ Some a) × (f a ≡ b))
-        → (a : A) × (meant_by (entry ∷ entries) w ≡ Some a) × (f a ≡ b)
-    go true is h later = (entry.1, ap (λ c. cond c (Some entry.1) (meant_by entries w)) is, some-is h)
-    go false is h later = let (a, meant, same) = later h in (a, ap (λ c. cond c (Some entry.1) (meant_by entries w)) is ∙ meant, same)
 
 mode-tokens : TokenLines → List ℕ → List ℕ → List Token → List Token
 mode-tokens lines f m r = word (codes "skepu") (lines 4) ∷ sign_at sign.Path (lines 5) ∷ word f (lines 6) ∷ sign_at sign.Path (lines 7) ∷ word m (lines 8) ∷ r
@@ -334,7 +320,7 @@ follows-item : (l : List (ℕ × spelling.Printed)) (line : ℕ) (r : List Token
 follows-item [] line r = tt
 follows-item (a ∷ l) line r = omega arith
 
-value-first : (left : ℕ) (nx : Next) (p : Place) → can_start nx ≡ true → reading.printed_by left nx p ≡ and_then (reading.value left Sum p) (λ e q. Some (item.Value e, q))
+value-first : (left : ℕ) (nx : Next) (p : Place) → can_start nx ≡ true → reading.printed_by left nx p ≡ and_then (assignments.value left Sum p) (λ e q. Some (item.Value e, q))
 value-first left (next.Keyword k) p h = absurd (cc)
 value-first left next.Text p h = absurd (cc)
 value-first left other p h = refl

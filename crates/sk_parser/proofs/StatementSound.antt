@@ -1,12 +1,11 @@
 -- What is read as a short statement has a lawful spelling that keeps the limits.
-use Rattle.std.proofs.Common.{◌≡◌, ℕ, zero, suc, ◌+◌, ◌≤◌, Bool, true, false, cond, ◌⊎◌, inl, inr, List, [], ◌∷◌, ◌++◌, length, Option, Some, None, IsTrue, refl, ap, sym, subst, ◌∙◌, arith, append_assoc}
+use Rattle.std.proofs.Common.{◌≡◌, ℕ, zero, suc, ◌+◌, ◌≤◌, ◌⊎◌, inl, inr, List, [], ◌∷◌, ◌++◌, length, Option, Some, None, IsTrue, refl, ap, sym, subst, ◌∙◌, arith}
 use Rattle.sk_base.specs.declared.number.Op.{Op}
 use Rattle.sk_base.specs.declared.number.Op.TheVariants as op
 use Rattle.sk_tree.specs.ExpressionSpelling.{Expression, Arguments, in_front, arguments_in_front, tree_in, trees_in, level_in, IsLawful, AreLawful, sign_at, word, typed}
 use Rattle.sk_tree.specs.Limits.{IsSmall, AreSmall, TargetFits, AssignmentFits, SimpleFits}
 use Rattle.sk_tree.specs.Signs.{Assigns, Plainly, Joining, assigns_of, step_of}
 use Rattle.sk_tree.specs.StatementSpelling as form
-use Rattle.sk_tree.specs.StatementSpelling.{Written, written_in_front, written_tree, IsLawfulStatement, at_line}
 use Rattle.sk_tree.specs.Words.{is_name}
 use Rattle.sk_tree.specs.declared.token.Sign.{Sign}
 use Rattle.sk_tree.specs.declared.token.Sign.TheVariants as sign
@@ -22,11 +21,13 @@ use Rattle.sk_parser.specs.declared.plain.Update.{Update}
 use Rattle.sk_parser.specs.declared.plain.Update.TheVariants.{Value, Joined, Step}
 use Rattle.sk_parser.specs.declared.target.Target.{Target}
 use Rattle.sk_parser.specs.declared.target.Target.TheVariants.{Variable, Element, Bracketed}
-use Rattle.sk_parser.specs.Reading.{Place, front, advance, sees, after, expect, name, ty, opened}
+use Rattle.sk_parser.specs.Reading.{Place, front, advance, after, expect, name, ty, opened}
 use Rattle.sk_parser.specs.ReadingExpressions.{below, arguments, arguments_from, expression}
-use Rattle.sk_parser.specs.ReadingStatements as reading
-use Rattle.sk_parser.proofs.ExpressionSound.{lines_of, Spelled, operators-sound, choice-sound, below-sound}
-use Rattle.sk_parser.proofs.Inversions.{bound, some-is, Takes, sign-takes, sees-sign, expect-takes, name-takes, ty-takes}
+use Rattle.sk_parser.specs.ReadingAssignments as reading
+use Rattle.sk_parser.proofs.Commas.{loop-sound}
+use Rattle.sk_parser.proofs.ExpressionSound.{operators-sound, choice-sound, below-sound}
+use Rattle.sk_parser.proofs.OperandSound.{Spelled}
+use Rattle.sk_parser.proofs.Inversions.{lines_of, bound, along, some-is, Takes, sign-takes, expect-takes, name-takes, ty-takes}
 use Rattle.sk_parser.proofs.StatementSteps.{target_value, assigned-same, old-same}
 
 -- ---- expressions of their own
@@ -75,44 +76,37 @@ owns-sound : (left turns : ℕ) (found : List Expr) (p : Place) (x : List Expr �
     → arguments_from (λ q. below (suc left) Whole (record q { nodes = 0 })) turns found p ≡ Some x
     → (es : List Expr) × (x.0 ≡ found ++ es) × AreValues left p es x.1
 unfolding arguments_from after
-owns-sound left zero found p x h = absurd (cc)
-owns-sound left (suc turns) found p x h =
-    let (a, argument-is, h) = bound (below (suc left) Whole (record p { nodes = 0 })) _ x h in
-    let s = fresh-value left 11 0 p a refl ((below-sound (suc left)).0 (record p { nodes = 0 }) a argument-is) in
-    go a s (sees sign.Comma a.1) refl h (λ q y. owns-sound left turns (found ++ a.0 ∷ []) q y)
+owns-sound left =
+    loop-sound (λ q. below (suc left) Whole (record q { nodes = 0 })) (λ e. e) (arguments_from (λ q. below (suc left) Whole (record q { nodes = 0 })))
+    (AreValues left) (λ found p. refl, λ turns found p. refl) last before
   where
-    go : (a : Expr × Place) → IsValue left 0 p a.0 a.1 → (b : Bool) → sees sign.Comma a.1 ≡ b
-        → cond b (arguments_from (λ q. below (suc left) Whole (record q { nodes = 0 })) turns (found ++ a.0 ∷ [])) (λ r. Some (found ++ a.0 ∷ [], r)) (cond b (advance a.1) a.1) ≡ Some x
-        → ((q : Place) (y : List Expr × Place) → arguments_from (λ q. below (suc left) Whole (record q { nodes = 0 })) turns (found ++ a.0 ∷ []) q ≡ Some y
-        → (es : List Expr) × (y.0 ≡ (found ++ a.0 ∷ []) ++ es) × AreValues left q es y.1)
-        → (es : List Expr) × (x.0 ≡ found ++ es) × AreValues left p es x.1
-    go a s true is h later =
-        let (line, comma) = sign-takes a.1 sign.Comma (sees-sign a.1 sign.Comma is) in
-        let (es, all, others) = later (advance a.1) x h in (
-          a.0 ∷ es,
-          all ∙ append_assoc found (a.0 ∷ []) es,
-          record {
-            spelling = Arguments.More s.spelling line others.spelling;
-            lawful = (s.lawful, others.lawful);
-            small = (s.small, others.small);
-            tokens = s.tokens ∙ ap (in_front s.spelling) (comma.tokens ∙ ap (λ r. sign_at sign.Comma line ∷ r) others.tokens);
-            is_tree = ap (λ e. e ∷ trees_in others.spelling) s.is_tree ∙ ap (λ l. a.0 ∷ l) others.is_tree;
-            instances = others.instances ∙ comma.instances ∙ s.instances;
-          },
-        )
-    go a s false is h later =
-        let same = some-is h in (
-          a.0 ∷ [],
-          sym (ap (λ y. y.0) same),
-          subst (AreValues left p (a.0 ∷ [])) (ap (λ y. y.1) same) (record {
-            spelling = Arguments.Last s.spelling;
-            lawful = s.lawful;
-            small = s.small;
-            tokens = s.tokens;
-            is_tree = ap (λ e. e ∷ []) s.is_tree;
-            instances = s.instances;
-          }),
-        )
+    own : (p : Place) (a : Expr × Place) → below (suc left) Whole (record p { nodes = 0 }) ≡ Some a → IsValue left 0 p a.0 a.1
+    own p a is = fresh-value left 11 0 p a refl ((below-sound (suc left)).0 (record p { nodes = 0 }) a is)
+
+    last : (p : Place) (a : Expr × Place) → below (suc left) Whole (record p { nodes = 0 }) ≡ Some a → AreValues left p (a.0 ∷ []) a.1
+    last p a is =
+        let s = own p a is in
+        record {
+          spelling = Arguments.Last s.spelling;
+          lawful = s.lawful;
+          small = s.small;
+          tokens = s.tokens;
+          is_tree = ap (λ e. e ∷ []) s.is_tree;
+          instances = s.instances;
+        }
+
+    before : (p : Place) (a : Expr × Place) → below (suc left) Whole (record p { nodes = 0 }) ≡ Some a → (line : ℕ) → Takes (sign_at sign.Comma line) a.1 (advance a.1)
+        → (es : List Expr) (q : Place) → AreValues left (advance a.1) es q → AreValues left p (a.0 ∷ es) q
+    before p a is line comma es q others =
+        let s = own p a is in
+        record {
+          spelling = Arguments.More s.spelling line others.spelling;
+          lawful = (s.lawful, others.lawful);
+          small = (s.small, others.small);
+          tokens = s.tokens ∙ ap (in_front s.spelling) (comma.tokens ∙ ap (λ r. sign_at sign.Comma line ∷ r) others.tokens);
+          is_tree = ap (λ e. e ∷ trees_in others.spelling) s.is_tree ∙ ap (λ l. a.0 ∷ l) others.is_tree;
+          instances = others.instances ∙ comma.instances ∙ s.instances;
+        }
 
 pub places-sound : (left : ℕ) (p : Place) (x : List Expr × Place) → reading.places (suc left) p ≡ Some x → AreValues left p x.0 x.1
 unfolding reading.places arguments
@@ -130,9 +124,6 @@ pub record IsTarget (left : ℕ) (p : Place) (t : Target) (q : Place) : Type 0 w
   pub is_value : target_value spelling ≡ t
   pub instances : q.instances ≡ p.instances
 
-along-target : {left : ℕ} {p : Place} (x y : Target × Place) → Some x ≡ Some y → IsTarget left p x.0 x.1 → IsTarget left p y.0 y.1
-along-target {left} {p} x y h s = subst (λ (z : Target × Place). IsTarget left p z.0 z.1) (some-is h) s
-
 element-sound : (left : ℕ) (p q : Place) (line : ℕ) (w : List ℕ) → IsTrue (is_name w) → Takes (word w line) p q → front q ≡ next.Sign sign.OpenParen
     → (x : Target × Place) → reading.element left w q ≡ Some x → IsTarget left p x.0 x.1
 unfolding reading.element opened advance
@@ -143,7 +134,7 @@ element-sound (suc left) p q line w free takes first x h =
     let s = places-sound left (advance q) a places-are in
     let (u, close-is, h) = bound (expect sign.CloseParen a.1) _ x h in
     let (line'', closing) = expect-takes a.1 sign.CloseParen u close-is in
-    along-target (Element w a.0, u.1) x h (record {
+    along (IsTarget (suc left) p) h (record {
       spelling = form.Target.Element (lines_of (line ∷ line' ∷ line'' ∷ [])) w s.spelling;
       lawful = (free, s.lawful);
       fits = s.small;
@@ -162,7 +153,7 @@ bracketed-sound (suc left) p q line w free takes first x h =
     let s = inside-sound left (advance q) a place-is in
     let (u, close-is, h) = bound (expect sign.CloseBracket a.1) _ x h in
     let (line'', closing) = expect-takes a.1 sign.CloseBracket u close-is in
-    along-target (Bracketed w a.0, u.1) x h (record {
+    along (IsTarget (suc left) p) h (record {
       spelling = form.Target.Bracketed (lines_of (line ∷ line' ∷ line'' ∷ [])) w s.spelling;
       lawful = (free, s.lawful);
       fits = s.small;
@@ -179,7 +170,7 @@ target-sound left p x h =
     go a line free takes (front a.1) refl h
   where
     plain : (a : List ℕ × Place) (line : ℕ) → IsTrue (is_name a.0) → Takes (word a.0 line) p a.1 → Some (Variable a.0, a.1) ≡ Some x → IsTarget left p x.0 x.1
-    plain a line free takes h = along-target (Variable a.0, a.1) x h (record {
+    plain a line free takes h = along (IsTarget left p) h (record {
       spelling = form.Target.Variable line a.0;
       lawful = free;
       fits = tt;
@@ -203,9 +194,6 @@ pub record IsAssignment (left : ℕ) (p : Place) (does : What) (q : Place) : Typ
   pub tokens : p.rest ≡ form.assignment_in_front spelling q.rest
   pub is_tree : form.assignment_tree spelling ≡ does
   pub instances : q.instances ≡ p.instances
-
-along-assignment : {left : ℕ} {p : Place} (x y : What × Place) → Some x ≡ Some y → IsAssignment left p x.0 x.1 → IsAssignment left p y.0 y.1
-along-assignment {left} {p} x y h s = subst (λ (z : What × Place). IsAssignment left p z.0 z.1) (some-is h) s
 
 -- what an update's sign stands for
 update-how : (s : Sign) (u : Update) → reading.update_of s ≡ Some u
@@ -240,7 +228,7 @@ unfolding advance
 assigns-sound left p q t s sg first how is x a value-is h =
     let (line, takes) = sign-takes q sg first in
     let v = value-sound left (advance q) a value-is in
-    along-assignment (reading.assigned t (form.new_value how (reading.old_value t) a.0), a.1) x h (record {
+    along (IsAssignment left p) h (record {
       spelling = form.Assignment.Assign s.spelling line sg how v.spelling;
       lawful = (s.lawful, is, v.lawful);
       fits = (s.fits, v.small);
@@ -257,7 +245,7 @@ steps-sound : (left : ℕ) (p q : Place) (t : Target) → IsTarget left p t q �
 unfolding advance
 steps-sound left p q t s sg first operator is x h =
     let (line, takes) = sign-takes q sg first in
-    along-assignment (reading.stepped left t operator, advance q) x h (record {
+    along (IsAssignment left p) h (record {
       spelling = form.Assignment.StepAfter s.spelling line sg operator;
       lawful = (s.lawful, is);
       fits = s.fits;
@@ -302,7 +290,7 @@ assignment-sound left p x h = go (front p) refl h
         let (line, takes) = sign-takes p sg first in
         let (a, target-is, h) = bound (reading.target left (advance p)) _ x h in
         let s = target-sound left (advance p) a target-is in
-        along-assignment (reading.stepped left a.0 operator, a.1) x h (record {
+        along (IsAssignment left p) h (record {
           spelling = form.Assignment.StepBefore line sg operator s.spelling;
           lawful = (is, s.lawful);
           fits = s.fits;
@@ -331,9 +319,6 @@ pub record IsSimple (left : ℕ) (p : Place) (does : What) (q : Place) : Type 0 
   pub is_tree : form.simple_tree spelling ≡ does
   pub instances : q.instances ≡ p.instances
 
-along-simple : {left : ℕ} {p : Place} (x y : What × Place) → Some x ≡ Some y → IsSimple left p x.0 x.1 → IsSimple left p y.0 y.1
-along-simple {left} {p} x y h s = subst (λ (z : What × Place). IsSimple left p z.0 z.1) (some-is h) s
-
 pub declaration-sound : (left : ℕ) (p : Place) (x : What × Place) → reading.declaration left p ≡ Some x → IsSimple left p x.0 x.1
 unfolding reading.declaration
 declaration-sound left p x h =
@@ -345,7 +330,7 @@ declaration-sound left p x h =
     let (l2, equals) = expect-takes w.1 sign.Eq e eq-is in
     let (a, value-is, h) = bound (reading.value left Whole e.1) _ x h in
     let v = value-sound left e.1 a value-is in
-    along-simple (what.Declare t.0 w.0 a.0, a.1) x h (record {
+    along (IsSimple left p) h (record {
       spelling = form.Simple.Declare (lines_of (l0 ∷ l1 ∷ l2 ∷ [])) t.0 w.0 v.spelling;
       lawful = (free, v.lawful);
       fits = v.small;

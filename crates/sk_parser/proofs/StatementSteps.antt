@@ -16,9 +16,9 @@ use Rattle.sk_parser.specs.declared.plain.Update.{Update}
 use Rattle.sk_parser.specs.declared.plain.Update.TheVariants.{Value, Joined, Step}
 use Rattle.sk_parser.specs.declared.target.Target.{Target}
 use Rattle.sk_parser.specs.declared.target.Target.TheVariants.{Variable, Element, Bracketed}
-use Rattle.sk_parser.specs.Reading.{Place, front, front_of, advance, sees, after, expect, same_sign, is_sign, word_in, front_word, opened}
+use Rattle.sk_parser.specs.Reading.{Place, front, front_of, advance, sees, after, expect, same_sign, is_sign, word_in, front_word, opened, line_of}
 use Rattle.sk_parser.specs.ReadingExpressions.{choice, chosen, below, arguments, arguments_from, expression}
-use Rattle.sk_parser.specs.ReadingStatements as reading
+use Rattle.sk_parser.specs.ReadingAssignments as reading
 use Rattle.sk_parser.proofs.Ends.{Ends}
 use Rattle.sk_parser.proofs.ExpressionReads.{longer, up_to}
 use Rattle.sk_parser.proofs.ExpressionsRead.{readable, whole-inside}
@@ -91,6 +91,11 @@ pub old-same : (t : spelling.Target) → reading.old_value (target_value t) ≡ 
 old-same (spelling.Target.Variable line w) = refl
 old-same (spelling.Target.Element lines w ss) = refl
 old-same (spelling.Target.Bracketed lines w s) = refl
+
+pub target-line : (t : spelling.Target) (r : List Token) → line_of (spelling.target_in_front t r) ≡ spelling.target_line t
+target-line (spelling.Target.Variable line w) r = refl
+target-line (spelling.Target.Element lines w ss) r = refl
+target-line (spelling.Target.Bracketed lines w s) r = refl
 
 abbrev pub update_for : Assigns → Update
 update_for Plainly = Value

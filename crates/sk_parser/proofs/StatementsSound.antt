@@ -3,7 +3,7 @@ use Rattle.std.proofs.Common.{◌≡◌, ℕ, zero, suc, ◌+◌, ◌≤◌, Boo
 use Rattle.sk_tree.specs.ExpressionSpelling.{in_front, tree_in, sign_at, word}
 use Rattle.sk_tree.specs.Limits.{BranchFits, OtherwiseFits, BlockFits, StatementsFit, branch_instances, otherwise_instances, block_instances, instances_in}
 use Rattle.sk_tree.specs.StatementSpelling as form
-use Rattle.sk_tree.specs.StatementSpelling.{Written, Branch, Otherwise, Block, Statements, written_in_front, branch_in_front, otherwise_in_front, block_in_front, statements_in_front, written_tree, branch_tree, otherwise_tree, block_tree, statements_tree, IsLawfulStatement, IsLawfulBranch, IsLawfulOtherwise, IsLawfulBlock, AreLawfulStatements, at_line}
+use Rattle.sk_tree.specs.StatementSpelling.{Written, Branch, Otherwise, Block, Statements, written_in_front, branch_in_front, otherwise_in_front, block_in_front, statements_in_front, branch_tree, otherwise_tree, block_tree, statements_tree, IsLawfulBranch, IsLawfulOtherwise, IsLawfulBlock, AreLawfulStatements, at_line}
 use Rattle.sk_tree.specs.declared.token.Sign.TheVariants as sign
 use Rattle.sk_tree.specs.declared.tree.Statement.{Statement}
 use Rattle.sk_tree.specs.declared.tree.What.{What}
@@ -14,10 +14,10 @@ use Rattle.sk_parser.specs.declared.expression.Reach.TheVariants.{Whole}
 use Rattle.sk_parser.specs.declared.keyword.Keyword.TheVariants as key
 use Rattle.sk_parser.specs.declared.statement.Head.{Head}
 use Rattle.sk_parser.specs.declared.statement.Part.TheVariants as part
-use Rattle.sk_parser.specs.Reading.{Place, and_then, front, advance, sees, sees_keyword, expect, opened}
+use Rattle.sk_parser.specs.Reading.{Place, and_then, front, advance, sees, sees_keyword, expect, opened, line_of, front_line}
+use Rattle.sk_parser.specs.ReadingAssignments as assignments
 use Rattle.sk_parser.specs.ReadingStatements as reading
-use Rattle.sk_parser.proofs.ExpressionSound.{lines_of}
-use Rattle.sk_parser.proofs.Inversions.{bound, some-is, expect-takes, keyword-takes, sees-keyword, opens}
+use Rattle.sk_parser.proofs.Inversions.{lines_of, bound, along, some-is, expect-takes, keyword-takes, sees-keyword, opens}
 use Rattle.sk_parser.proofs.ShortSound.{IsWritten, short-sound}
 use Rattle.sk_parser.proofs.StatementSound.{value-sound, inside-sound, assignment-sound, simple-sound}
 
@@ -63,7 +63,7 @@ pub record IsOtherwise (left : ℕ) (p : Place) (made : List Statement) (q : Pla
 pub record IsAlone (left : ℕ) (p : Place) (made : List Statement) (q : Place) : Type 0 where
   pub does : What
   pub branch : IsBranch left p does q
-  pub is_list : at_line (reading.line_of p.rest) does ∷ [] ≡ made
+  pub is_list : at_line (line_of p.rest) does ∷ [] ≡ made
 
 -- of what is opened
 abbrev pub PartsBelow : ℕ → Type 0
@@ -82,7 +82,7 @@ block-sound (suc left) inside p x h =
     let s = inside.0 u.1 a inner-is in
     let (v, close-is, h) = bound (expect sign.CloseBrace a.1) _ x h in
     let (l', closing) = expect-takes a.1 sign.CloseBrace v close-is in
-    subst (λ (z : List Statement × Place). IsBlock (suc left) p z.0 z.1) (some-is h) (record {
+    along (IsBlock (suc left) p) h (record {
       spelling = Block.Braces (lines_of (l ∷ l' ∷ [])) s.spelling;
       lawful = s.lawful;
       fits = s.fits;
@@ -111,7 +111,7 @@ else-sound left inside p first x h = go (sees_keyword key.If (advance p)) refl h
           lawful = b.lawful;
           fits = b.fits;
           tokens = other.tokens ∙ ap (λ z. word (codes "else") l ∷ z) to;
-          is_tree = ap (λ d. at_line b.line d ∷ []) b.is_tree ∙ ap (λ n. at_line n alone.does ∷ []) (sym (ap reading.line_of b.tokens)) ∙ alone.is_list;
+          is_tree = ap (λ d. at_line b.line d ∷ []) b.is_tree ∙ ap (λ n. at_line n alone.does ∷ []) (sym (ap line_of b.tokens)) ∙ alone.is_list;
           instances = omega (arith, b.instances, ap (λ (z : Place). z.instances) same);
           few = λ few. b.few (omega (arith, ap (λ (z : Place). z.instances) same, few));
         }
@@ -138,7 +138,7 @@ otherwise-sound left inside p x h = go (sees_keyword key.Else p) refl h
   where
     go : (c : Bool) → sees_keyword key.Else p ≡ c → cond c (reading.other_branch left (reading.part_below left) p) (Some ([], p)) ≡ Some x → IsOtherwise left p x.0 x.1
     go true is h = else-sound left inside p (sees-keyword p key.Else is) x h
-    go false is h = subst (λ (z : List Statement × Place). IsOtherwise left p z.0 z.1) (some-is h) (record {
+    go false is h = along (IsOtherwise left p) h (record {
       spelling = Otherwise.Nothing;
       lawful = tt;
       fits = tt;
@@ -155,7 +155,7 @@ branch-sound (suc left) inside p first x h =
     let (l, iff) = keyword-takes p key.If first in
     let (u, open-is, h) = bound (expect sign.OpenParen (advance p)) _ x h in
     let (l0, opening) = expect-takes (advance p) sign.OpenParen u open-is in
-    let (e, test-is, h) = bound (reading.value_inside (suc left) u.1) _ x h in
+    let (e, test-is, h) = bound (assignments.value_inside (suc left) u.1) _ x h in
     let v = inside-sound left u.1 e test-is in
     let (c, close-is, h) = bound (expect sign.CloseParen e.1) _ x h in
     let (l1, closing) = expect-takes e.1 sign.CloseParen c close-is in
@@ -163,7 +163,7 @@ branch-sound (suc left) inside p first x h =
     let s = block-sound (suc left) inside c.1 b block-is in
     let (o, other-is, h) = bound (reading.otherwise (suc left) (reading.part_below (suc left)) b.1) _ x h in
     let t = otherwise-sound (suc left) inside b.1 o other-is in
-    subst (λ (z : What × Place). IsBranch (suc left) p z.0 z.1) (some-is h) (record {
+    along (IsBranch (suc left) p) h (record {
       line = l;
       spelling = Branch.Test (lines_of (l0 ∷ l1 ∷ [])) v.spelling s.spelling t.spelling;
       lawful = (v.lawful, s.lawful, t.lawful);
@@ -175,32 +175,32 @@ branch-sound (suc left) inside p first x h =
       few = λ few. t.few (s.few (omega (arith, closing.instances, v.instances, opening.instances, few)));
     })
 
-for-sound : (left : ℕ) → PartsBelow left → (p : Place) → front p ≡ next.Keyword key.For → (x : What × Place) → reading.turned left (reading.part_below left) (reading.line_of p.rest) p ≡ Some x
-    → IsWritten left p (at_line (reading.line_of p.rest) x.0) x.1
+for-sound : (left : ℕ) → PartsBelow left → (p : Place) → front p ≡ next.Keyword key.For → (x : What × Place) → reading.turned left (reading.part_below left) (line_of p.rest) p ≡ Some x
+    → IsWritten left p (at_line (line_of p.rest) x.0) x.1
 unfolding reading.turned reading.head opened advance
 for-sound zero inside p first x h = absurd (cc)
 for-sound (suc left) inside p first x h =
     let (l, forr) = keyword-takes p key.For first in
     let (u, open-is, h) = bound (expect sign.OpenParen (advance p)) _ x h in
     let (l1, opening) = expect-takes (advance p) sign.OpenParen u open-is in
-    let (d, head-is, h) = bound (reading.head left (reading.line_of p.rest) u.1) _ x h in
-    let (a, first-is, k) = bound (reading.simple left u.1) _ d head-is in
+    let (d, head-is, h) = bound (reading.head left (line_of p.rest) u.1) _ x h in
+    let (a, first-is, k) = bound (assignments.simple left u.1) _ d head-is in
     let one = simple-sound left u.1 a first-is in
     let (m, semi-is, k) = bound (expect sign.Semi a.1) _ d k in
     let (l2, semi) = expect-takes a.1 sign.Semi m semi-is in
-    let (e, test-is, k) = bound (reading.value left Whole m.1) _ d k in
+    let (e, test-is, k) = bound (assignments.value left Whole m.1) _ d k in
     let v = value-sound left m.1 e test-is in
     let (m', semi'-is, k) = bound (expect sign.Semi e.1) _ d k in
     let (l3, semi') = expect-takes e.1 sign.Semi m' semi'-is in
-    let (s, step-is, k) = bound (reading.assignment left m'.1) _ d k in
+    let (s, step-is, k) = bound (assignments.assignment left m'.1) _ d k in
     let step = assignment-sound left m'.1 s step-is in
     let same = some-is k in
     let (c, close-is, h) = bound (expect sign.CloseParen d.1) _ x h in
     let (l4, closing) = expect-takes d.1 sign.CloseParen c close-is in
     let (b, block-is, h) = bound (reading.block (suc left) (reading.part_below (suc left)) c.1) _ x h in
     let body = block-sound (suc left) inside c.1 b block-is in
-    let number = ap reading.line_of forr.tokens in
-    subst (λ (z : What × Place). IsWritten (suc left) p (at_line (reading.line_of p.rest) z.0) z.1) (some-is h) (record {
+    let number = ap line_of forr.tokens in
+    along (λ does. IsWritten (suc left) p (at_line (line_of p.rest) does)) h (record {
       written = Written.For (lines_of (l ∷ l1 ∷ l2 ∷ l3 ∷ l4 ∷ [])) one.spelling v.spelling step.spelling body.spelling;
       lawful = (one.lawful, v.lawful, step.lawful, body.lawful);
       fits = ((one.fits, v.small, step.fits), body.fits);
@@ -208,35 +208,35 @@ for-sound (suc left) inside p first x h =
           (semi.tokens ∙ ap (λ z. sign_at sign.Semi l2 ∷ z) (v.tokens ∙ ap (in_front v.spelling) (semi'.tokens ∙ ap (λ z. sign_at sign.Semi l3 ∷ z) (step.tokens
           ∙ ap (form.assignment_in_front step.spelling) (ap (λ (z : Head × Place). z.1.rest) same ∙ closing.tokens ∙ ap (λ z. sign_at sign.CloseParen l4 ∷ z) body.tokens)))))));
       is_tree = ap (λ n. at_line n (what.For (at_line n (form.simple_tree one.spelling)) (tree_in v.spelling) (at_line n (form.assignment_tree step.spelling)) (block_tree body.spelling))) (sym number)
-          ∙ ap (λ f. at_line (reading.line_of p.rest) (what.For f (tree_in v.spelling) (at_line (reading.line_of p.rest) (form.assignment_tree step.spelling)) (block_tree body.spelling)))
-          (ap (at_line (reading.line_of p.rest)) one.is_tree ∙ ap (λ (z : Head × Place). z.0.first) same)
-          ∙ ap (λ t. at_line (reading.line_of p.rest) (what.For d.0.first t (at_line (reading.line_of p.rest) (form.assignment_tree step.spelling)) (block_tree body.spelling)))
+          ∙ ap (λ f. at_line (line_of p.rest) (what.For f (tree_in v.spelling) (at_line (line_of p.rest) (form.assignment_tree step.spelling)) (block_tree body.spelling)))
+          (ap (at_line (line_of p.rest)) one.is_tree ∙ ap (λ (z : Head × Place). z.0.first) same)
+          ∙ ap (λ t. at_line (line_of p.rest) (what.For d.0.first t (at_line (line_of p.rest) (form.assignment_tree step.spelling)) (block_tree body.spelling)))
           (v.is_tree ∙ ap (λ (z : Head × Place). z.0.test) same)
-          ∙ ap (λ t. at_line (reading.line_of p.rest) (what.For d.0.first d.0.test t (block_tree body.spelling)))
-          (ap (at_line (reading.line_of p.rest)) step.is_tree ∙ ap (λ (z : Head × Place). z.0.step) same)
-          ∙ ap (λ t. at_line (reading.line_of p.rest) (what.For d.0.first d.0.test d.0.step t)) body.is_tree;
+          ∙ ap (λ t. at_line (line_of p.rest) (what.For d.0.first d.0.test t (block_tree body.spelling)))
+          (ap (at_line (line_of p.rest)) step.is_tree ∙ ap (λ (z : Head × Place). z.0.step) same)
+          ∙ ap (λ t. at_line (line_of p.rest) (what.For d.0.first d.0.test d.0.step t)) body.is_tree;
       instances = omega (arith, body.instances, closing.instances, ap (λ (z : Head × Place). z.1.instances) same, step.instances, semi'.instances, v.instances, semi.instances, one.instances, opening.instances);
       few = λ few. body.few (omega (arith, closing.instances, ap (λ (z : Head × Place). z.1.instances) same, step.instances, semi'.instances, v.instances, semi.instances, one.instances, opening.instances, few));
     })
 
 statement-sound : (left : ℕ) → PartsBelow left → (p : Place) (x : Statement × Place) → reading.statement left (reading.part_below left) p ≡ Some x → IsWritten left p x.0 x.1
-unfolding reading.statement reading.doing reading.front_line
+unfolding reading.statement reading.doing front_line
 statement-sound left inside p x h =
-    let (a, does-is, h) = bound (reading.statement_by left (reading.part_below left) (reading.line_of p.rest) (front p) p) _ x h in
-    subst (λ (z : Statement × Place). IsWritten left p z.0 z.1) (some-is h) (go a (front p) refl does-is)
+    let (a, does-is, h) = bound (reading.statement_by left (reading.part_below left) (line_of p.rest) (front p) p) _ x h in
+    along (IsWritten left p) h (go a (front p) refl does-is)
   where
-    by-if : (a : What × Place) → IsBranch left p a.0 a.1 → IsWritten left p (at_line (reading.line_of p.rest) a.0) a.1
+    by-if : (a : What × Place) → IsBranch left p a.0 a.1 → IsWritten left p (at_line (line_of p.rest) a.0) a.1
     by-if a b = record {
       written = Written.If b.line b.spelling;
       lawful = b.lawful;
       fits = b.fits;
       tokens = b.tokens;
-      is_tree = ap (at_line b.line) b.is_tree ∙ ap (λ l. at_line l a.0) (sym (ap reading.line_of b.tokens));
+      is_tree = ap (at_line b.line) b.is_tree ∙ ap (λ l. at_line l a.0) (sym (ap line_of b.tokens));
       instances = b.instances;
       few = b.few;
     }
 
-    go : (a : What × Place) (nx : Next) → front p ≡ nx → reading.statement_by left (reading.part_below left) (reading.line_of p.rest) nx p ≡ Some a → IsWritten left p (at_line (reading.line_of p.rest) a.0) a.1
+    go : (a : What × Place) (nx : Next) → front p ≡ nx → reading.statement_by left (reading.part_below left) (line_of p.rest) nx p ≡ Some a → IsWritten left p (at_line (line_of p.rest) a.0) a.1
     go a (next.Keyword key.If) is h = by-if a (branch-sound left inside p is a h)
     go a (next.Keyword key.For) is h = for-sound left inside p is a h
     go a (next.Keyword k) is h = short-sound left p a h
@@ -287,10 +287,10 @@ part-sound left inside p x h =
     let (made, all, s) = statements_from-sound left inside (length p.rest) [] p x h in subst (λ l. AreStatements left p l x.1) (sym all) s
 
 alone-sound : (left : ℕ) → PartsBelow left → (p : Place) → front p ≡ next.Keyword key.If → (x : List Statement × Place) → reading.part left (reading.part_below left) part.Branch p ≡ Some x → IsAlone left p x.0 x.1
-unfolding reading.alone reading.front_line
+unfolding reading.alone front_line
 alone-sound left inside p first x h =
     let (a, branch-is, h) = bound (reading.branch left (reading.part_below left) p) _ x h in
-    subst (λ (z : List Statement × Place). IsAlone left p z.0 z.1) (some-is h) (record { does = a.0; branch = branch-sound left inside p first a branch-is; is_list = refl })
+    along (IsAlone left p) h (record { does = a.0; branch = branch-sound left inside p first a branch-is; is_list = refl })
 
 pub parts-sound : (left : ℕ) → PartsBelow left
 unfolding reading.part_below

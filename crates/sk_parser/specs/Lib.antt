@@ -4,7 +4,9 @@ pub mod InnerPart
 pub mod Inside
 pub mod Pieces
 pub mod Reading
+pub mod ReadingAssignments
 pub mod ReadingExpressions
+pub mod ReadingForms
 pub mod ReadingPrograms
 pub mod ReadingStatements
 pub mod Spelling

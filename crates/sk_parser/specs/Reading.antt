@@ -59,6 +59,14 @@ front_of (token ∷ rest) = next_of token
 unfoldable pub front : Place → Next
 front p = front_of p.rest
 
+-- the line of the next token, and 0 at the end
+abbrev pub line_of : List Token → ℕ
+line_of [] = 0
+line_of (token ∷ rest) = token.line
+
+unfoldable pub front_line : Place → ℕ
+front_line p = line_of p.rest
+
 unfoldable pub advance : Place → Place
 advance p = record p { rest = drop 1 p.rest }
 
@@ -93,6 +101,9 @@ peek = λ p. Some (front p, p)
 
 abbrev pub take : Parser (Unit {0})
 take = λ p. Some (tt, advance p)
+
+abbrev pub line : Parser ℕ
+line = λ p. Some (front_line p, p)
 
 -- ---- steps
 

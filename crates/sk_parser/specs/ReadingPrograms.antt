@@ -14,8 +14,8 @@ use Rattle.sk_parser.specs.declared.cursor.Next.TheVariants as next
 use Rattle.sk_parser.specs.declared.function.View.{View}
 use Rattle.sk_parser.specs.declared.function.View.TheVariants as view
 use Rattle.sk_parser.specs.declared.keyword.Keyword.TheVariants as key
-use Rattle.sk_parser.specs.Reading.{Place, Outcome, Parser, ◌>>=◌, ◌>>◌, pure, refuse, peek, take, front, start_of, sees, eat, expect, expect_keyword, name, front_word, word_in, ty}
-use Rattle.sk_parser.specs.ReadingStatements.{line, block, part_below}
+use Rattle.sk_parser.specs.Reading.{Place, Outcome, Parser, ◌>>=◌, ◌>>◌, pure, refuse, peek, take, front, start_of, sees, eat, expect, expect_keyword, name, front_word, word_in, ty, line}
+use Rattle.sk_parser.specs.ReadingStatements.{block, part_below}
 
 abbrev pub seen_as : View → Ty → ParamKind
 seen_as (view.Whole dimension) of = Proxy dimension of

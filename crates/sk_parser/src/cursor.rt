@@ -2,7 +2,7 @@ ghost use Rattle.std.specs.Prelude.{◌≡◌, ◌≢◌, ◌+◌, ◌≤◌, �
 ghost use Rattle.std.specs.Option.{option_copied};
 ghost use Rattle.sk_parser.specs.Reading as spec;
 ghost use Rattle.sk_parser.specs.ReadingExpressions as expressions;
-ghost use Rattle.sk_parser.specs.ReadingStatements as statements;
+ghost use Rattle.sk_parser.specs.ReadingForms as forms;
 ghost use Rattle.sk_parser.specs.ReadingPrograms as programs;
 ghost use Rattle.sk_parser.specs.Reading.{Reads};
 ghost use Rattle.sk_parser.specs.declared.fault.ParseFault.TheVariants.{Memory};
@@ -132,9 +132,9 @@ impl<'a> Cursor<'a> {
     }
 
     /// The line of the next token, and 0 at the end.
-    #[tactic(auto, unfolding(crate::specs::ReadingStatements::front_line))]
+    #[tactic(auto, unfolding(crate::specs::Reading::front_line))]
     pub fn line(&self) -> u32
-        ensures { result ≡ statements.front_line self.now }
+        ensures { result ≡ spec.front_line self.now }
     {
         match self.rest.first() {
             Some(token) => token.line,
@@ -143,9 +143,9 @@ impl<'a> Cursor<'a> {
     }
 
     /// Whether a setting of the name that comes next follows.
-    #[tactic(auto, unfolding(crate::specs::ReadingStatements::begins_setting, crate::specs::Reading::front, crate::specs::Reading::advance))]
+    #[tactic(auto, unfolding(crate::specs::ReadingForms::begins_setting, crate::specs::Reading::front, crate::specs::Reading::advance))]
     pub fn begins_setting(&self) -> bool
-        ensures { result ≡ statements.begins_setting self.now }
+        ensures { result ≡ forms.begins_setting self.now }
     {
         match self.rest.get(1) {
             Some(token) => Next::of(token).is_sign(Sign::Dot),

@@ -1,6 +1,6 @@
 ghost use Rattle.std.specs.Prelude.{◌≡◌, [], length, map, codes};
 ghost use Rattle.sk_parser.specs.Reading.{Reads, and_then, expect, pure, word_in};
-ghost use Rattle.sk_parser.specs.ReadingStatements as spec;
+ghost use Rattle.sk_parser.specs.ReadingForms as spec;
 ghost use Rattle.sk_tree.specs.Signs.{container_words, skeleton_words};
 
 use crate::cursor::{Cursor, Next};
@@ -81,7 +81,7 @@ fn setting_word(cursor: &mut Cursor<'_>) -> Result<SettingWord, ParseFault>
 }
 
 /// `skepu::FAMILY::MODE`
-#[tactic(auto, unfolding(crate::specs::ReadingStatements::mode))]
+#[tactic(auto, unfolding(crate::specs::ReadingForms::mode))]
 fn mode<T: Copy>(
     cursor: &mut Cursor<'_>,
     family: &[(&[u8], ())],
@@ -129,7 +129,7 @@ fn numbers_inside(alloc: Global, cursor: &mut Cursor<'_>) -> Result<Items<Cell>,
     Err(cursor.refuse())
 }
 
-#[tactic(auto, unfolding(crate::specs::ReadingStatements::numbers))]
+#[tactic(auto, unfolding(crate::specs::ReadingForms::numbers))]
 fn numbers(alloc: Global, cursor: &mut Cursor<'_>) -> Result<Items<Cell>, ParseFault>
     ensures { Reads (spec.numbers cursor.old) result cursor.new }
 {
@@ -163,7 +163,7 @@ fn followed<T: Drop>(cursor: &mut Cursor<'_>, sign: Sign, value: T) -> Result<T,
 }
 
 impl Plain {
-    #[tactic(auto, unfolding(crate::specs::ReadingStatements::filled))]
+    #[tactic(auto, unfolding(crate::specs::ReadingForms::filled))]
     fn filled(
         &self,
         cursor: &mut Cursor<'_>,
@@ -180,7 +180,7 @@ impl Plain {
         Ok(What::Make(kind, ty, name, found))
     }
 
-    #[tactic(auto, unfolding(crate::specs::ReadingStatements::input))]
+    #[tactic(auto, unfolding(crate::specs::ReadingForms::input))]
     fn input(
         &self,
         cursor: &mut Cursor<'_>,
@@ -200,7 +200,7 @@ impl Plain {
     }
 
     /// The declaration of a container.
-    #[tactic(auto, unfolding(crate::specs::ReadingStatements::make))]
+    #[tactic(auto, unfolding(crate::specs::ReadingForms::make))]
     fn make(&self, cursor: &mut Cursor<'_>) -> Result<What, ParseFault>
         ensures { Reads (spec.make self.now.left cursor.old) result cursor.new }
     {
@@ -218,7 +218,7 @@ impl Plain {
         }
     }
 
-    #[tactic(auto, unfolding(crate::specs::ReadingStatements::instance))]
+    #[tactic(auto, unfolding(crate::specs::ReadingForms::instance))]
     fn instance(&self, cursor: &mut Cursor<'_>) -> Result<What, ParseFault>
         ensures { Reads (spec.instance self.now.left cursor.old) result cursor.new }
     {
@@ -257,7 +257,7 @@ impl Plain {
         })
     }
 
-    #[tactic(auto, unfolding(crate::specs::ReadingStatements::set))]
+    #[tactic(auto, unfolding(crate::specs::ReadingForms::set))]
     pub fn set(&self, cursor: &mut Cursor<'_>) -> Result<What, ParseFault>
         ensures { Reads (spec.set self.now.left cursor.old) result cursor.new }
     {
@@ -271,7 +271,7 @@ impl Plain {
         Ok(What::Set(name, setting))
     }
 
-    #[tactic(auto, unfolding(crate::specs::ReadingStatements::printed_end))]
+    #[tactic(auto, unfolding(crate::specs::ReadingForms::printed_end))]
     fn printed_end(&self, cursor: &mut Cursor<'_>) -> Result<Item, ParseFault>
         ensures { Reads (spec.printed_end self.now.left cursor.old) result cursor.new }
     {
@@ -282,7 +282,7 @@ impl Plain {
     }
 
     /// A printed item with the `<<` before it.
-    #[tactic(auto, unfolding(crate::specs::ReadingStatements::printed))]
+    #[tactic(auto, unfolding(crate::specs::ReadingForms::printed))]
     fn printed(&self, cursor: &mut Cursor<'_>) -> Result<Item, ParseFault>
         ensures { Reads (spec.printed self.now.left cursor.old) result cursor.new }
     {
@@ -310,7 +310,7 @@ impl Plain {
         Err(cursor.refuse())
     }
 
-    #[tactic(auto, unfolding(crate::specs::ReadingStatements::print))]
+    #[tactic(auto, unfolding(crate::specs::ReadingForms::print))]
     fn print(&self, cursor: &mut Cursor<'_>) -> Result<What, ParseFault>
         ensures { Reads (spec.print self.now.left cursor.old) result cursor.new }
     {
@@ -322,7 +322,7 @@ impl Plain {
     }
 
     /// A call, or an assignment that begins with its target.
-    #[tactic(auto, unfolding(crate::specs::ReadingStatements::used))]
+    #[tactic(auto, unfolding(crate::specs::ReadingForms::used))]
     fn used(&self, cursor: &mut Cursor<'_>) -> Result<What, ParseFault>
         ensures { Reads (spec.used self.now.left cursor.old) result cursor.new }
     {
@@ -337,7 +337,7 @@ impl Plain {
         }
     }
 
-    #[tactic(auto, unfolding(crate::specs::ReadingStatements::by_name))]
+    #[tactic(auto, unfolding(crate::specs::ReadingForms::by_name))]
     fn by_name(&self, cursor: &mut Cursor<'_>) -> Result<What, ParseFault>
         ensures { Reads (spec.by_name self.now.left cursor.old) result cursor.new }
     {
@@ -348,7 +348,7 @@ impl Plain {
         }
     }
 
-    #[tactic(auto, unfolding(crate::specs::ReadingStatements::returned))]
+    #[tactic(auto, unfolding(crate::specs::ReadingForms::returned))]
     fn returned(&self, cursor: &mut Cursor<'_>) -> Result<What, ParseFault>
         ensures { Reads (spec.returned self.now.left cursor.old) result cursor.new }
     {
@@ -357,7 +357,7 @@ impl Plain {
         Ok(What::Return(result))
     }
 
-    #[tactic(auto, unfolding(crate::specs::ReadingStatements::begun))]
+    #[tactic(auto, unfolding(crate::specs::ReadingForms::begun))]
     fn begun(&self, cursor: &mut Cursor<'_>) -> Result<What, ParseFault>
         ensures { Reads (spec.begun self.now.left cursor.old) result cursor.new }
     {
@@ -373,7 +373,7 @@ impl Plain {
     }
 
     /// A statement that ends with `;`.
-    #[tactic(auto, unfolding(crate::specs::ReadingStatements::short))]
+    #[tactic(auto, unfolding(crate::specs::ReadingForms::short))]
     pub fn short(&self, cursor: &mut Cursor<'_>) -> Result<What, ParseFault>
         ensures { Reads (spec.short self.now.left cursor.old) result cursor.new }
     {

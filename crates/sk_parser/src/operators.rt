@@ -3,7 +3,7 @@ ghost use Rattle.sk_tree.specs.ExpressionSpelling as spelling;
 ghost use Rattle.sk_parser.specs.Inner.{ReadsBelow};
 ghost use Rattle.sk_parser.specs.Reading.{Reads};
 ghost use Rattle.sk_parser.specs.ReadingExpressions as spec;
-ghost use Rattle.sk_parser.specs.ReadingStatements as statements;
+ghost use Rattle.sk_parser.specs.ReadingAssignments as assignments;
 
 use crate::cursor::{Cursor, Next};
 use crate::expression::{Expressions, Reach};
@@ -152,23 +152,23 @@ pub fn expression(
 }
 
 /// An expression that is part of no other.
-#[tactic(auto, unfolding(crate::specs::ReadingStatements::value))]
+#[tactic(auto, unfolding(crate::specs::ReadingAssignments::value))]
 pub fn value(
     alloc: Global,
     cursor: &mut Cursor<'_>,
     left: usize,
     reach: Reach,
 ) -> Result<Expr, ParseFault>
-    ensures { Reads (statements.value left reach cursor.old) result cursor.new }
+    ensures { Reads (assignments.value left reach cursor.old) result cursor.new }
 {
     cursor.fresh();
     expression(alloc, cursor, left, reach)
 }
 
 /// An expression that is part of no other, inside of what is opened.
-#[tactic(auto, unfolding(crate::specs::ReadingStatements::value_inside))]
+#[tactic(auto, unfolding(crate::specs::ReadingAssignments::value_inside))]
 pub fn value_inside(alloc: Global, cursor: &mut Cursor<'_>, left: usize) -> Result<Expr, ParseFault>
-    ensures { Reads (statements.value_inside left cursor.old) result cursor.new }
+    ensures { Reads (assignments.value_inside left cursor.old) result cursor.new }
 {
     cursor.fresh();
     Expressions {
@@ -180,13 +180,13 @@ pub fn value_inside(alloc: Global, cursor: &mut Cursor<'_>, left: usize) -> Resu
 }
 
 /// Expressions with commas between, each part of no other, inside of what is opened.
-#[tactic(auto, unfolding(crate::specs::ReadingStatements::places))]
+#[tactic(auto, unfolding(crate::specs::ReadingAssignments::places))]
 pub fn places(
     alloc: Global,
     cursor: &mut Cursor<'_>,
     left: usize,
 ) -> Result<Items<Expr>, ParseFault>
-    ensures { Reads (statements.places left cursor.old) result cursor.new }
+    ensures { Reads (assignments.places left cursor.old) result cursor.new }
 {
     Expressions {
         alloc,

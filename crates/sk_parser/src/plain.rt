@@ -1,7 +1,7 @@
 ghost use Rattle.std.specs.Prelude.{◌≡◌, IfOk, IfErr, option_map};
 ghost use Rattle.sk_tree.specs.Signs.{step_of};
 ghost use Rattle.sk_parser.specs.Reading.{Reads};
-ghost use Rattle.sk_parser.specs.ReadingStatements as spec;
+ghost use Rattle.sk_parser.specs.ReadingAssignments as spec;
 
 use crate::cursor::{Cursor, Next};
 use crate::expression::Reach;
@@ -82,7 +82,7 @@ pub struct Plain {
 }
 
 impl Plain {
-    #[tactic(auto, unfolding(crate::specs::ReadingStatements::element))]
+    #[tactic(auto, unfolding(crate::specs::ReadingAssignments::element))]
     fn element(&self, cursor: &mut Cursor<'_>, name: Name) -> Result<Target, ParseFault>
         ensures { Reads (spec.element self.now.left name cursor.old) result cursor.new }
     {
@@ -93,7 +93,7 @@ impl Plain {
         Ok(Target::Element(name, found))
     }
 
-    #[tactic(auto, unfolding(crate::specs::ReadingStatements::bracketed))]
+    #[tactic(auto, unfolding(crate::specs::ReadingAssignments::bracketed))]
     fn bracketed(&self, cursor: &mut Cursor<'_>, name: Name) -> Result<Target, ParseFault>
         ensures { Reads (spec.bracketed self.now.left name cursor.old) result cursor.new }
     {
@@ -104,7 +104,7 @@ impl Plain {
         Ok(Target::Bracketed(name, place))
     }
 
-    #[tactic(auto, unfolding(crate::specs::ReadingStatements::target))]
+    #[tactic(auto, unfolding(crate::specs::ReadingAssignments::target))]
     pub fn target(&self, cursor: &mut Cursor<'_>) -> Result<Target, ParseFault>
         ensures { Reads (spec.target self.now.left cursor.old) result cursor.new }
     {
@@ -148,7 +148,7 @@ impl Plain {
     }
 
     /// What follows a target that begins at `start`.
-    #[tactic(auto, unfolding(crate::specs::ReadingStatements::update, crate::specs::ReadingStatements::joined_value))]
+    #[tactic(auto, unfolding(crate::specs::ReadingAssignments::update, crate::specs::ReadingAssignments::joined_value))]
     pub fn update(
         &self,
         cursor: &mut Cursor<'_>,
@@ -189,7 +189,7 @@ impl Plain {
         self.joined(&start, target, op, Expr::Number(Ty::Int, 1))
     }
 
-    #[tactic(auto, unfolding(crate::specs::ReadingStatements::assignment))]
+    #[tactic(auto, unfolding(crate::specs::ReadingAssignments::assignment))]
     pub fn assignment(&self, cursor: &mut Cursor<'_>) -> Result<What, ParseFault>
         ensures { Reads (spec.assignment self.now.left cursor.old) result cursor.new }
     {
@@ -204,7 +204,7 @@ impl Plain {
         }
     }
 
-    #[tactic(auto, unfolding(crate::specs::ReadingStatements::declaration))]
+    #[tactic(auto, unfolding(crate::specs::ReadingAssignments::declaration))]
     pub fn declaration(&self, cursor: &mut Cursor<'_>) -> Result<What, ParseFault>
         ensures { Reads (spec.declaration self.now.left cursor.old) result cursor.new }
     {
@@ -216,7 +216,7 @@ impl Plain {
     }
 
     /// What a `for` may begin with.
-    #[tactic(auto, unfolding(crate::specs::ReadingStatements::simple))]
+    #[tactic(auto, unfolding(crate::specs::ReadingAssignments::simple))]
     pub fn simple(&self, cursor: &mut Cursor<'_>) -> Result<What, ParseFault>
         ensures { Reads (spec.simple self.now.left cursor.old) result cursor.new }
     {

@@ -2,6 +2,7 @@ ghost use Rattle.std.specs.Prelude.{◌≡◌, [], ◌∷◌, length, IfOk};
 ghost use Rattle.sk_tree.specs.StatementSpelling.{at_line};
 ghost use Rattle.sk_parser.specs.InnerPart.{ReadsPartBelow};
 ghost use Rattle.sk_parser.specs.Reading.{Reads, and_then, pure};
+ghost use Rattle.sk_parser.specs.ReadingAssignments as assignments;
 ghost use Rattle.sk_parser.specs.ReadingStatements as spec;
 
 use crate::cursor::{Cursor, Next};
@@ -51,7 +52,7 @@ fn read_first(
     cursor: &mut Cursor<'_>,
     line: u32,
 ) -> Result<Boxed<Statement>, ParseFault>
-    ensures { Reads (and_then (spec.simple plain.left cursor.old) (λ does. pure (at_line line does))) result cursor.new }
+    ensures { Reads (and_then (assignments.simple plain.left cursor.old) (λ does. pure (at_line line does))) result cursor.new }
 {
     let does = plain.simple(cursor)?;
     Ok(boxed(plain.alloc, line, does)?)
@@ -62,7 +63,7 @@ fn read_step(
     cursor: &mut Cursor<'_>,
     line: u32,
 ) -> Result<Boxed<Statement>, ParseFault>
-    ensures { Reads (and_then (spec.assignment plain.left cursor.old) (λ does. pure (at_line line does))) result cursor.new }
+    ensures { Reads (and_then (assignments.assignment plain.left cursor.old) (λ does. pure (at_line line does))) result cursor.new }
 {
     let does = plain.assignment(cursor)?;
     Ok(boxed(plain.alloc, line, does)?)

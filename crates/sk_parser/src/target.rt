@@ -1,5 +1,5 @@
 ghost use Rattle.std.specs.Prelude.{◌≡◌, [], ◌∷◌, IfOk};
-ghost use Rattle.sk_parser.specs.ReadingStatements as spec;
+ghost use Rattle.sk_parser.specs.ReadingAssignments as spec;
 
 use sk_tree::{Expr, Name, What};
 use sqlite_items::Items;

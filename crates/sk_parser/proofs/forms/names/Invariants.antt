@@ -1,5 +1,5 @@
 use Rattle.std.proofs.Common.{◌≡◌, ◌-◌}
-use Rattle.sk_parser.specs.ReadingStatements.{names, names_from}
+use Rattle.sk_parser.specs.ReadingForms.{names, names_from}
 use Rattle.sk_parser.proofs.forms.names.Given as goal
 
 abbrev pub invariant-loop-turn : goal.invariant-loop-turn

@@ -1,6 +1,6 @@
 use Rattle.std.proofs.Common.{rules, arith}
 use Rattle.std.proofs.lemmas.Grind.{common_steps}
-use Rattle.sk_parser.specs.ReadingStatements.{numbers_from}
+use Rattle.sk_parser.specs.ReadingForms.{numbers_from}
 use Rattle.sk_parser.proofs.Turns.{one_more, no_more}
 use Rattle.sk_parser.proofs.forms.numbers_inside.Goals as goal
 

@@ -1,5 +1,5 @@
 use Rattle.std.proofs.Common.{◌≡◌, ◌-◌, [], length}
-use Rattle.sk_parser.specs.ReadingStatements.{numbers_from}
+use Rattle.sk_parser.specs.ReadingForms.{numbers_from}
 use Rattle.sk_parser.proofs.forms.numbers_inside.Given as goal
 
 abbrev pub invariant-loop-turn : goal.invariant-loop-turn

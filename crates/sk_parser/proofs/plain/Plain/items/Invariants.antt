@@ -1,5 +1,5 @@
 use Rattle.std.proofs.Common.{◌≡◌, ◌-◌, [], length}
-use Rattle.sk_parser.specs.ReadingStatements.{items_from}
+use Rattle.sk_parser.specs.ReadingForms.{items_from}
 use Rattle.sk_parser.proofs.plain.Plain.items.Given as goal
 
 abbrev pub invariant-loop-turn : goal.invariant-loop-turn

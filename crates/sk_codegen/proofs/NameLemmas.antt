@@ -1,5 +1,5 @@
 -- What names are bound to, and which are left, where what they stand for is replaced.
-use Rattle.std.proofs.Common.{◌≡◌, ◌-◌, length, drop, ℕ, Bool, true, false, List, [], ◌∷◌, Option, Some, if◌then◌else◌, map, refl, sym, ◌∙◌, ap}
+use Rattle.std.proofs.Common.{◌≡◌, ◌-◌, length, drop, ℕ, Bool, true, false, List, [], ◌∷◌, Some, if◌then◌else◌, map, refl, sym, ◌∙◌, ap}
 use Rattle.std.specs.Option.{option_map}
 use Rattle.std.proofs.lemmas.List.{drop-map, length-map}
 use Rattle.sk_tree.specs.Bindings.{bound_to}

@@ -149,11 +149,13 @@ simply-reads (Simple.Assigning (Assignment.StepBefore line' sg operator t)) line
     )
 
 -- a short statement that counts no instance
-pub plain-reads : (left line : ℕ) (does : What) (tokens : List Token) (n i m j : ℕ) (r : List Token) → IsShort (front_of tokens) → line_of tokens ≡ line → i + 0 ≡ j
-    → forms.short left (at tokens n i) ≡ Some (does, at r m i)
-    → reading.statement left (reading.part_below left) (at tokens n i) ≡ Some (at_line line does, at r m j)
-plain-reads left line does tokens n i m j r short is-line sum read =
-    short-statement left line does tokens n i m i r short is-line read ∙ ap (λ k. Some (at_line line does, at r m k)) (same_number i j sum)
+pub plain-reads : (w : Written) → ((r : List Token) → IsShort (front_of (written_in_front w r))) → ((r : List Token) → line_of (written_in_front w r) ≡ (written_tree w).line) → written_instances w ≡ 0
+    → ((left n i : ℕ) (r : List Token) → WrittenFits w left → (m : ℕ) × (forms.short left (at (written_in_front w r) n i) ≡ Some ((written_tree w).what, at r m i)))
+    → Reads w
+plain-reads w short is-line none read left n i j r fits sum most h =
+    let (m, is) = read left n i r fits in
+    let same : i ≡ j = omega (arith, none, sum) in
+    (m, short-statement left (written_tree w).line (written_tree w).what (written_in_front w r) n i m i r (short r) (is-line r) is ∙ ap (λ k. Some (written_tree w, at r m k)) same)
 
 -- by keywords
 pub make-short : IsShort (word_next (keyword_of (codes "skepu")))

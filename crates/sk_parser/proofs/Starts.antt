@@ -81,48 +81,30 @@ prefix-by left inner sign.Tilde op is p = ap (λ o. elim o [ Some u ↦ prefixed
 prefix-by left inner sign.Not op is p = ap (λ o. elim o [ Some u ↦ prefixed left inner u p | None ↦ None ]) is
 prefix-by left inner other op is p = absurd (cc)
 
+operator-level : (o : Op) → (1 ≤ operator_level o) × (operator_level o ≤ 10)
+operator-level op.Add = (omega arith, omega arith)
+operator-level op.Sub = (omega arith, omega arith)
+operator-level op.Mul = (omega arith, omega arith)
+operator-level op.Div = (omega arith, omega arith)
+operator-level op.Rem = (omega arith, omega arith)
+operator-level op.Shl = (omega arith, omega arith)
+operator-level op.Shr = (omega arith, omega arith)
+operator-level op.And = (omega arith, omega arith)
+operator-level op.Or = (omega arith, omega arith)
+operator-level op.Xor = (omega arith, omega arith)
+operator-level op.Lt = (omega arith, omega arith)
+operator-level op.Le = (omega arith, omega arith)
+operator-level op.Gt = (omega arith, omega arith)
+operator-level op.Ge = (omega arith, omega arith)
+operator-level op.Eq = (omega arith, omega arith)
+operator-level op.Ne = (omega arith, omega arith)
+
 pub level-least : (j : Infix) → 1 ≤ infix_level j
 level-least Either = omega arith
 level-least Both = omega arith
-level-least (Computes operator) = least operator
-  where
-    least : (o : Op) → 1 ≤ operator_level o
-    least op.Add = omega arith
-    least op.Sub = omega arith
-    least op.Mul = omega arith
-    least op.Div = omega arith
-    least op.Rem = omega arith
-    least op.Shl = omega arith
-    least op.Shr = omega arith
-    least op.And = omega arith
-    least op.Or = omega arith
-    least op.Xor = omega arith
-    least op.Lt = omega arith
-    least op.Le = omega arith
-    least op.Gt = omega arith
-    least op.Ge = omega arith
-    least op.Eq = omega arith
-    least op.Ne = omega arith
+level-least (Computes operator) = (operator-level operator).0
 
 pub level-most : (j : Infix) → infix_level j ≤ 10
 level-most Either = omega arith
 level-most Both = omega arith
-level-most (Computes operator) = most operator
-  where
-    most : (o : Op) → operator_level o ≤ 10
-    most op.Add = omega arith
-    most op.Sub = omega arith
-    most op.Mul = omega arith
-    most op.Div = omega arith
-    most op.Rem = omega arith
-    most op.Shl = omega arith
-    most op.Shr = omega arith
-    most op.And = omega arith
-    most op.Or = omega arith
-    most op.Xor = omega arith
-    most op.Lt = omega arith
-    most op.Le = omega arith
-    most op.Gt = omega arith
-    most op.Ge = omega arith
-    most op.Eq = omega arith
-    most op.Ne = omega arith
+level-most (Computes operator) = (operator-level operator).1

@@ -121,38 +121,34 @@ for-reads lines first test step b lawful lawful' lawful'' reads (suc left) n i j
 mutual
   pub statement-reads : (w : Written) → IsLawfulStatement w → Reads w
   statement-reads (Written.Simply s line) lawful = simply-reads s line lawful
-  statement-reads (Written.Make lines k sizes t w ss) lawful = λ left n i j r fits sum most h.
-      let (m, read) = make-ok lines k sizes t w ss lawful.0 lawful.1 lawful.2 left fits r n i in
-      (m, plain-reads left (written_tree (Written.Make lines k sizes t w ss)).line (written_tree (Written.Make lines k sizes t w ss)).what (written_in_front (Written.Make lines k sizes t w ss) r) n i m j r make-short refl sum read)
-  statement-reads (Written.Take lines k sizes t w input) lawful = λ left n i j r fits sum most h.
-      let (m, read) = take-ok lines k sizes t w input lawful.0 lawful.1 left fits r n i in
-      (m, plain-reads left (written_tree (Written.Take lines k sizes t w input)).line (written_tree (Written.Take lines k sizes t w input)).what (written_in_front (Written.Take lines k sizes t w input) r) n i m j r make-short refl sum read)
+  statement-reads (Written.Make lines k sizes t w ss) lawful =
+      plain-reads (Written.Make lines k sizes t w ss) (λ r. make-short) (λ r. refl) refl
+      (λ left n i r fits. make-ok lines k sizes t w ss lawful.0 lawful.1 lawful.2 left fits r n i)
+  statement-reads (Written.Take lines k sizes t w input) lawful =
+      plain-reads (Written.Take lines k sizes t w input) (λ r. make-short) (λ r. refl) refl
+      (λ left n i r fits. take-ok lines k sizes t w input lawful.0 lawful.1 left fits r n i)
   statement-reads (Written.Instantiate lines w k skeleton ns fs) lawful = λ left n i j r fits sum most h.
       let (m, read) = instance-ok lines w k skeleton ns fs lawful.0 lawful.1 lawful.2 lawful.3 lawful.4 left fits r n i (omega (arith, sum)) in (
         m,
         short-statement left (lines 0) (written_tree (Written.Instantiate lines w k skeleton ns fs)).what (written_in_front (Written.Instantiate lines w k skeleton ns fs) r) n i m (i + 1) r
             auto-short refl read ∙ ap (λ z. Some (written_tree (Written.Instantiate lines w k skeleton ns fs), at r m z)) sum,
       )
-  statement-reads (Written.SetValue lines w k sets s) lawful = λ left n i j r fits sum most h.
-      let (m, read) = set_value-ok lines w k sets s lawful.0 lawful.1 lawful.2 left fits r n i in
-      (m, plain-reads left (written_tree (Written.SetValue lines w k sets s)).line (written_tree (Written.SetValue lines w k sets s)).what (written_in_front (Written.SetValue lines w k sets s) r) n i m j r (name-short (word_next (keyword_of w)) (ap word_next (keyword-none w lawful.0))) refl sum read)
-  statement-reads (Written.SetOverlap lines w ss) lawful = λ left n i j r fits sum most h.
-      let (m, read) = set_overlap-ok lines w ss lawful.0 lawful.1 left fits r n i in
-      (m, plain-reads left (written_tree (Written.SetOverlap lines w ss)).line (written_tree (Written.SetOverlap lines w ss)).what (written_in_front (Written.SetOverlap lines w ss) r) n i m j r (name-short (word_next (keyword_of w)) (ap word_next (keyword-none w lawful.0))) refl sum read)
-  statement-reads (Written.SetMode lines w k family mode made) lawful = λ left n i j r fits sum most h. (
-    n,
-    plain-reads left (written_tree (Written.SetMode lines w k family mode made)).line (written_tree (Written.SetMode lines w k family mode made)).what (written_in_front (Written.SetMode lines w k family mode made) r) n i n j r (name-short (word_next (keyword_of w)) (ap word_next (keyword-none w lawful.0))) refl sum
-        (set_mode-ok lines w k family mode made lawful.0 lawful.1 lawful.2 left fits r n i),
-  )
-  statement-reads (Written.Call lines w ss) lawful = λ left n i j r fits sum most h.
-      let (m, read) = call-ok lines w ss lawful.0 lawful.1 left fits r n i in
-      (m, plain-reads left (written_tree (Written.Call lines w ss)).line (written_tree (Written.Call lines w ss)).what (written_in_front (Written.Call lines w ss) r) n i m j r (name-short (word_next (keyword_of w)) (ap word_next (keyword-none w lawful.0))) refl sum read)
-  statement-reads (Written.Print lines l) lawful = λ left n i j r fits sum most h.
-      let (m, read) = print-ok lines l lawful.0 lawful.1 left fits r n i in
-      (m, plain-reads left (written_tree (Written.Print lines l)).line (written_tree (Written.Print lines l)).what (written_in_front (Written.Print lines l) r) n i m j r std-short refl sum read)
-  statement-reads (Written.Return lines s) lawful = λ left n i j r fits sum most h.
-      let (m, read) = return-ok lines s lawful left fits r n i in
-      (m, plain-reads left (written_tree (Written.Return lines s)).line (written_tree (Written.Return lines s)).what (written_in_front (Written.Return lines s) r) n i m j r return-short refl sum read)
+  statement-reads (Written.SetValue lines w k sets s) lawful =
+      plain-reads (Written.SetValue lines w k sets s) (λ r. name-short (word_next (keyword_of w)) (ap word_next (keyword-none w lawful.0))) (λ r. refl) refl
+      (λ left n i r fits. set_value-ok lines w k sets s lawful.0 lawful.1 lawful.2 left fits r n i)
+  statement-reads (Written.SetOverlap lines w ss) lawful =
+      plain-reads (Written.SetOverlap lines w ss) (λ r. name-short (word_next (keyword_of w)) (ap word_next (keyword-none w lawful.0))) (λ r. refl) refl
+      (λ left n i r fits. set_overlap-ok lines w ss lawful.0 lawful.1 left fits r n i)
+  statement-reads (Written.SetMode lines w k family mode made) lawful =
+      plain-reads (Written.SetMode lines w k family mode made) (λ r. name-short (word_next (keyword_of w)) (ap word_next (keyword-none w lawful.0))) (λ r. refl) refl
+      (λ left n i r fits. (n, set_mode-ok lines w k family mode made lawful.0 lawful.1 lawful.2 left fits r n i))
+  statement-reads (Written.Call lines w ss) lawful =
+      plain-reads (Written.Call lines w ss) (λ r. name-short (word_next (keyword_of w)) (ap word_next (keyword-none w lawful.0))) (λ r. refl) refl
+      (λ left n i r fits. call-ok lines w ss lawful.0 lawful.1 left fits r n i)
+  statement-reads (Written.Print lines l) lawful =
+      plain-reads (Written.Print lines l) (λ r. std-short) (λ r. refl) refl (λ left n i r fits. print-ok lines l lawful.0 lawful.1 left fits r n i)
+  statement-reads (Written.Return lines s) lawful =
+      plain-reads (Written.Return lines s) (λ r. return-short) (λ r. refl) refl (λ left n i r fits. return-ok lines s lawful left fits r n i)
   statement-reads (Written.If line b) lawful = if-reads line b (branch-reads b lawful)
   statement-reads (Written.For lines first test step b) lawful = for-reads lines first test step b lawful.0 lawful.1 lawful.2 (block-reads b lawful.3)
 

@@ -1,10 +1,13 @@
 -- A recursion on a count of turns, beside a loop that counts up; and one step down.
-use Rattle.std.proofs.Common.{◌≡◌, ℕ, suc, ◌+◌, ◌-◌, ◌<◌, ◌≤◌, List, [], ◌∷◌, ◌++◌, length, Some, refl, ap, ◌∙◌, arith}
+use Rattle.std.proofs.Common.{◌≡◌, ℕ, suc, ◌+◌, ◌-◌, ◌<◌, ◌≤◌, List, [], ◌∷◌, ◌++◌, length, Some, None, refl, ap, sym, ◌∙◌, arith}
 use Rattle.std.specs.Prelude.{reverse}
 use Rattle.std.proofs.lemmas.List.{reverse-append}
+use Rattle.sk_tree.specs.declared.token.Sign.TheVariants as sign
 use Rattle.sk_tree.specs.declared.tree.Expr.{Expr}
+use Rattle.sk_tree.specs.declared.tree.Expr.TheVariants as tree
 use Rattle.sk_parser.specs.declared.expression.Reach.{Reach}
-use Rattle.sk_parser.specs.Reading.{Place, Parser, and_then}
+use Rattle.sk_parser.specs.declared.expression.Reach.TheVariants.{Whole}
+use Rattle.sk_parser.specs.Reading.{Place, Outcome, Parser, and_then, expect, opened}
 use Rattle.sk_parser.specs.ReadingStatements.{part_below, part_of}
 use Rattle.sk_parser.specs.declared.statement.Part.{Part}
 use Rattle.sk_parser.specs.ReadingExpressions.{below, expression, chosen, operators, more}
@@ -23,6 +26,23 @@ pub below-some : (left : ℕ) (reach : Reach) (p : Place) → 0 < left → below
 below-some left reach p some =
     let e : left ≡ suc (left - 1) = omega arith in
     ap (λ n. below n reach p) e ∙ below-suc (left - 1) reach p
+
+and_then-then : {A B C : Type 0} (o : Outcome A) (f : A → Parser B) (g : B → Parser C) → and_then (and_then o f) g ≡ and_then o (λ a p. and_then (f a p) g)
+and_then-then None f g = refl
+and_then-then (Some x) f g = refl
+
+-- the other part is read, and the choice waits behind the tests that are left
+pub chosen_turn : (left : ℕ) (inner : Reach → Parser Expr) (tests : List Expr) (test value : Expr) (p : Place)
+    → chosen left inner (test ∷ tests) value p
+    ≡ and_then (and_then (expect sign.Colon p) (λ _ q. and_then (opened left q) (λ _. inner Whole))) (λ other. chosen left inner tests (tree.Choose test value other))
+unfolding chosen
+chosen_turn left inner tests test value p = go (expect sign.Colon p)
+  where
+    go : (o : Outcome (Unit {0}))
+        → and_then o (λ _ q. and_then (opened left q) (λ _ r. and_then (inner Whole r) (λ other. chosen left inner tests (tree.Choose test value other))))
+        ≡ and_then (and_then o (λ _ q. and_then (opened left q) (λ _. inner Whole))) (λ other. chosen left inner tests (tree.Choose test value other))
+    go None = refl
+    go (Some x) = sym (and_then-then (opened left x.1) (λ _. inner Whole) (λ other. chosen left inner tests (tree.Choose test value other)))
 
 pub chosen_pop : (left : ℕ) (inner : Reach → Parser Expr) (tests rest : List Expr) (test value : Expr) (p : Place) → tests ≡ rest ++ test ∷ []
     → chosen left inner (reverse tests) value p ≡ chosen left inner (test ∷ reverse rest) value p

@@ -1,7 +1,7 @@
 ghost use Rattle.std.specs.Prelude.{◌≡◌, ◌≤◌, ◌++◌, [], ◌∷◌, reverse, IfOk};
 ghost use Rattle.sk_tree.specs.ExpressionSpelling as spelling;
 ghost use Rattle.sk_parser.specs.Inner.{ReadsBelow};
-ghost use Rattle.sk_parser.specs.Reading.{Reads};
+ghost use Rattle.sk_parser.specs.Reading.{Reads, and_then, expect, opened};
 ghost use Rattle.sk_parser.specs.ReadingExpressions as spec;
 ghost use Rattle.sk_parser.specs.ReadingAssignments as assignments;
 
@@ -80,6 +80,16 @@ impl<F: Fn(Global, &mut Cursor<'_>, usize, Reach) -> Result<Expr, ParseFault>> E
         Ok(first)
     }
 
+    /// From a `:` on.
+    fn other_part(&self, cursor: &mut Cursor<'_>) -> Result<Expr, ParseFault>
+        requires { ReadsBelow self.now.left (F.pre self.now.inner) (F.post self.now.inner) }
+        ensures { Reads (and_then (expect Sign.Colon cursor.old) (λ _ p. and_then (opened self.now.left p) (λ _. spec.below self.now.left Reach.Whole))) result cursor.new }
+    {
+        cursor.expect(Sign::Colon)?;
+        cursor.open(self.left)?;
+        self.inner(cursor, Reach::Whole)
+    }
+
     /// What follows the `:` of the latest test, and so on to the first one.
     fn chosen(
         &self,
@@ -93,9 +103,7 @@ impl<F: Fn(Global, &mut Cursor<'_>, usize, Reach) -> Result<Expr, ParseFault>> E
         let mut tests = tests;
         let mut value = value;
         while let Some(test) = tests.pop() {
-            cursor.expect(Sign::Colon)?;
-            cursor.open(self.left)?;
-            let other = self.inner(cursor, Reach::Whole)?;
+            let other = self.other_part(cursor)?;
             value = choose(self.alloc, test, value, other)?;
         }
         Ok(value)

@@ -129,6 +129,32 @@ impl Plain {
         }
     }
 
+    /// The value of the target, which begins at `start`.
+    fn old_value(&self, start: &Cursor<'_>, target: &Target) -> Result<Expr, ParseFault>
+        requires { option_map (λ read. read.0) (spec.target self.now.left start.now) ≡ Some target.now }
+        ensures old { IfOk result (λ old. old ≡ spec.old_value target.now) }
+        ensures memory { IfErr result (λ fault. fault ≡ ParseFault.Memory) }
+    {
+        let same = self.again(start, target)?;
+        Ok(same.old_value(self.alloc)?)
+    }
+
+    /// The value of the target, which begins at `start`, with another joined to it.
+    fn joined_value(
+        &self,
+        start: &Cursor<'_>,
+        target: &Target,
+        op: Op,
+        more: Expr,
+    ) -> Result<Expr, ParseFault>
+        requires { option_map (λ read. read.0) (spec.target self.now.left start.now) ≡ Some target.now }
+        ensures whole { IfOk result (λ whole. whole ≡ Expr.Binary op (spec.old_value target.now) more) }
+        ensures memory { IfErr result (λ fault. fault ≡ ParseFault.Memory) }
+    {
+        let old = self.old_value(start, target)?;
+        Ok(binary(self.alloc, op, old, more)?)
+    }
+
     /// The statement that joins a value to that of the target, which begins at `start`.
     fn joined(
         &self,
@@ -141,14 +167,38 @@ impl Plain {
         ensures does { IfOk result (λ does. does ≡ spec.assigned target (Expr.Binary op (spec.old_value target) more)) }
         ensures memory { IfErr result (λ fault. fault ≡ ParseFault.Memory) }
     {
-        let same = self.again(start, &target)?;
-        let old = same.old_value(self.alloc)?;
-        let value = binary(self.alloc, op, old, more)?;
+        let value = self.joined_value(start, &target, op, more)?;
         Ok(target.assigned(self.alloc, value)?)
     }
 
+    /// From `=` on.
+    fn assigns(&self, cursor: &mut Cursor<'_>, target: Target) -> Result<What, ParseFault>
+        ensures { Reads (spec.update_by self.now.left target (Some Update.Value) cursor.old) result cursor.new }
+    {
+        cursor.advance();
+        let new = value(self.alloc, cursor, self.left, Reach::Whole)?;
+        Ok(target.assigned(self.alloc, new)?)
+    }
+
+    /// From `+=` or the like on, behind a target that begins at `start`.
+    #[tactic(auto, unfolding(crate::specs::ReadingAssignments::joined_value))]
+    fn joins(
+        &self,
+        cursor: &mut Cursor<'_>,
+        start: &Cursor<'_>,
+        target: Target,
+        op: Op,
+    ) -> Result<What, ParseFault>
+        requires { option_map (λ read. read.0) (spec.target self.now.left start.now) ≡ Some target }
+        ensures { Reads (spec.update_by self.now.left target (Some (Update.Joined op)) cursor.old) result cursor.new }
+    {
+        cursor.advance();
+        let more = value(self.alloc, cursor, self.left, Reach::Whole)?;
+        self.joined(start, target, op, more)
+    }
+
     /// What follows a target that begins at `start`.
-    #[tactic(auto, unfolding(crate::specs::ReadingAssignments::update, crate::specs::ReadingAssignments::joined_value))]
+    #[tactic(auto, unfolding(crate::specs::ReadingAssignments::update))]
     pub fn update(
         &self,
         cursor: &mut Cursor<'_>,
@@ -159,16 +209,8 @@ impl Plain {
         ensures { Reads (spec.update self.now.left target cursor.old) result cursor.new }
     {
         match Update::at(cursor.peek()) {
-            Some(Update::Value) => {
-                cursor.advance();
-                let new = value(self.alloc, cursor, self.left, Reach::Whole)?;
-                Ok(target.assigned(self.alloc, new)?)
-            }
-            Some(Update::Joined(op)) => {
-                cursor.advance();
-                let more = value(self.alloc, cursor, self.left, Reach::Whole)?;
-                self.joined(start, target, op, more)
-            }
+            Some(Update::Value) => self.assigns(cursor, target),
+            Some(Update::Joined(op)) => self.joins(cursor, start, target, op),
             Some(Update::Step(op)) => {
                 cursor.advance();
                 self.joined(start, target, op, Expr::Number(Ty::Int, 1))

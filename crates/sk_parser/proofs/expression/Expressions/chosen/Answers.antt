@@ -1,43 +1,27 @@
 use Rattle.std.proofs.Common.{rules, arith, ◌∙◌}
 use Rattle.std.proofs.lemmas.Grind.{common_steps}
-use Rattle.sk_parser.specs.ReadingExpressions.{chosen, below}
-use Rattle.sk_parser.proofs.Turns.{chosen_pop, chosen_none}
+use Rattle.std.specs.Prelude.{reverse}
+use Rattle.sk_parser.specs.ReadingExpressions.{below}
+use Rattle.sk_parser.proofs.Turns.{chosen_pop, chosen_turn, chosen_none}
 use Rattle.sk_parser.proofs.expression.Expressions.chosen.Goals as goal
 
-pub returns-in_err-expect : goal.returns-in_err-expect
-unfolding chosen
-returns-in_err-expect g c =
-    let left = c.args.self.now.left in
-    let e = c.loop-test.invariant
-    ∙ chosen_pop left (below left) c.loop-test.tests.items c.pop.new.self.items c.in-Some.test c.loop-test.value c.loop-test.cursor c.in-Some.ensures.items in
-    first_of (search rules, grind (arith, common_steps))
-
-pub returns-in_err-open : goal.returns-in_err-open
-unfolding chosen
-returns-in_err-open g c =
-    let left = c.args.self.now.left in
-    let e = c.loop-test.invariant
-    ∙ chosen_pop left (below left) c.loop-test.tests.items c.pop.new.self.items c.in-Some.test c.loop-test.value c.loop-test.cursor c.in-Some.ensures.items in
-    first_of (search rules, grind (arith, common_steps))
-
 pub returns-in_err-other : goal.returns-in_err-other
-unfolding chosen
 returns-in_err-other g c =
     let left = c.args.self.now.left in
     let e = c.loop-test.invariant
-    ∙ chosen_pop left (below left) c.loop-test.tests.items c.pop.new.self.items c.in-Some.test c.loop-test.value c.loop-test.cursor c.in-Some.ensures.items in
+    ∙ chosen_pop left (below left) c.loop-test.tests.items c.pop.new.self.items c.in-Some.test c.loop-test.value c.loop-test.cursor c.in-Some.ensures.items
+    ∙ chosen_turn left (below left) (reverse c.pop.new.self.items) c.in-Some.test c.loop-test.value c.loop-test.cursor in
     first_of (search rules, grind (arith, common_steps))
 
 pub loop-test-preserved : goal.loop-test-preserved
-unfolding chosen
 loop-test-preserved g c =
     let left = c.args.self.now.left in
     let e = c.loop-test.invariant
-    ∙ chosen_pop left (below left) c.loop-test.tests.items c.pop.new.self.items c.in-Some.test c.loop-test.value c.loop-test.cursor c.in-Some.ensures.items in
+    ∙ chosen_pop left (below left) c.loop-test.tests.items c.pop.new.self.items c.in-Some.test c.loop-test.value c.loop-test.cursor c.in-Some.ensures.items
+    ∙ chosen_turn left (below left) (reverse c.pop.new.self.items) c.in-Some.test c.loop-test.value c.loop-test.cursor in
     first_of (search rules, grind (arith, common_steps))
 
 pub returns : goal.returns
-unfolding chosen
 returns g c =
     let left = c.args.self.now.left in
     let none = c.in_default.ensures.cases.0 in

@@ -174,10 +174,6 @@ step-ok t line sg op is left r n i =
 
 -- ---- assignments
 
-abbrev pub begins_name : spelling.Assignment → Bool
-begins_name (spelling.Assignment.StepBefore line sg op t) = false
-begins_name other = true
-
 pub target-name : (t : spelling.Target) → spelling.IsLawfulTarget t → (r : List Token) → front_of (spelling.target_in_front t r) ≡ next.Name
 target-name (spelling.Target.Variable line w) free r = rw (keyword-none w free) refl
 target-name (spelling.Target.Element lines w ss) lawful r = rw (keyword-none w lawful.0) refl

@@ -88,9 +88,6 @@ else_if-reads lines b reads (suc left) n i j r fits sum most h =
     let (m, read) = reads left (lines 1) n i j r fits sum most h in
     (m, rw (part-inside left part.Branch (at (word (codes "if") (lines 1) ∷ branch_in_front b r) n i)) (rw read refl))
 
-no_else-brace : (b : Block) (r : List Token) → NoElse (block_in_front b r)
-no_else-brace (Block.Braces lines ss) r = refl
-
 test-reads : (lines : TokenLines) (s : Expression) (b : Block) (o : Otherwise) → IsLawful s → BlockReads b → OtherwiseReads o → BranchReads (Branch.Test lines s b o)
 unfolding reading.branch front advance sees expect opened same_sign
 test-reads lines s b o lawful block-reads other-reads zero line n i j r fits sum most h = absurd fits.0

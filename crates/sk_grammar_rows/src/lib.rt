@@ -6,6 +6,7 @@
 //! - `reading`: from a source to its tree, and back.
 //! - `expressions`, `statements`, `programs`: accepted sources.
 //! - `refused_expressions`, `refused_statements`, `refused_programs`: refused ones.
+//! - `places`: refused sources with the token that is told.
 //! - `repeated`: texts in which a part stands many times.
 //! - `limits`: sources at the limits and one above.
 //! - `lengths`: long sources.
@@ -22,6 +23,8 @@ mod lengths;
 mod limits;
 #[cfg(test)]
 mod lines;
+#[cfg(test)]
+mod places;
 #[cfg(test)]
 mod programs;
 #[cfg(test)]

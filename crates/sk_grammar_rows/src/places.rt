@@ -1,14 +1,12 @@
-//! What is told of refused sources, and of which token. No clause says it yet where several faults could be told, so these
+//! What is told of refused sources, and of which token. No clause says yet which fault is told, or of which token, so these
 //! rows show it: the first token with which no program goes on, or that is above a limit.
+use crate::reading::MANY;
 use crate::repeated::{Parts, repeated};
 use sk_lexer::tokens;
-use sk_parser::parse;
+use sk_parser::{ParseFault, parse};
 use std::alloc::Global;
 use std::process::Abort;
 use std::test::Fail;
-
-/// More bytes and more tokens than any source here has.
-const MANY: usize = 1 << 20;
 
 /// A source, and the token that is told.
 type Row = (&'static str, u32);
@@ -120,6 +118,7 @@ fn told(rt: &impl Abort, alloc: Global, source: &str) -> Result<String, Fail> {
     assert!(rt; tokens.len() < MANY);
     match parse(alloc, tokens.as_slice()) {
         Ok(_program) => Ok(String::from_str(alloc, "a program")?),
+        Err(ParseFault::Memory) => Err(ParseFault::Memory)?,
         Err(fault) => Ok(format!(in alloc; "{fault}")?),
     }
 }

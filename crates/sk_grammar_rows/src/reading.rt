@@ -13,7 +13,7 @@ use std::process::Abort;
 use std::test::Fail;
 
 /// More bytes and more tokens than any source here has.
-const MANY: usize = 1 << 30;
+pub const MANY: usize = 1 << 30;
 
 /// The program of a text, or nothing where it is refused. The text has tokens.
 #[tactic(auto, using(crate::proofs::FromText::from_text))]

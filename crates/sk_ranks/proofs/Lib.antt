@@ -1,0 +1,17 @@
+mod SumLemmas
+mod FindLemmas
+mod SetLemmas
+mod MarkLemmas
+mod CountLemmas
+mod FollowerLemmas
+mod EnabledLemmas
+mod ChosenLemmas
+mod TestLemmas
+mod RunLemmas
+mod ActLemmas
+mod StepLemmas
+mod LoopLemmas
+mod StartLemmas
+mod BuildLemmas
+mod OrderLemmas
+mod ThereLemmas

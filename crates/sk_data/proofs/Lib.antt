@@ -1,0 +1,13 @@
+pub mod Digits
+pub mod Fields
+pub mod GivenBack
+pub mod Joins
+pub mod NamesKept
+pub mod NumbersBack
+pub mod Places
+pub mod ReadingOn
+pub mod RecordsBack
+pub mod SizesRead
+pub mod Slots
+pub mod Suited
+pub mod Taking

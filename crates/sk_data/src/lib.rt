@@ -1,0 +1,36 @@
+//! Containers as records of comma-separated values: the inputs of a program are read from them, and its final
+//! containers are written as such.
+//!
+//! - `decimal`: whole numbers in decimal digits, read and written.
+//! - `joined`: texts with a byte between them.
+//! - `sizes`: shapes as text.
+//! - `cells`, `given`: lists of cells, and containers with their names and shapes.
+//! - `fault`: why there are no inputs.
+//! - `numbers`: the cells of a record.
+//! - `judged`: what one record gives an input.
+//! - `names`: the place of a declared name.
+//! - `inputs`: what the records so far gave.
+//! - `records`: the records of a text, one after another.
+//! - `from_text`: from a text to the inputs of a program.
+//! - `to_text`: from containers to a text, which reads as them again.
+#![tactic(auto)]
+
+mod cells;
+mod decimal;
+mod fault;
+mod from_text;
+mod given;
+mod inputs;
+mod joined;
+mod judged;
+mod names;
+mod numbers;
+mod records;
+mod sizes;
+mod to_text;
+
+pub use cells::Cells;
+pub use fault::{InputFault, Memory};
+pub use from_text::input;
+pub use given::{Dumped, Given};
+pub use to_text::dump;

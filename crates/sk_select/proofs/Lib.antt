@@ -1,0 +1,5 @@
+pub mod WordLemmas
+pub mod KeyLemmas
+pub mod ChoiceLemmas
+pub mod RuleLemmas
+pub mod FaultLemmas

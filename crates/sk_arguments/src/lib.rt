@@ -1,0 +1,2 @@
+//! What a skeleton's function is given at a place, for every kind of parameter: definitions alone, in `specs/`.
+#![tactic(auto)]

@@ -1,0 +1,2 @@
+pub mod MainNames
+pub mod MainRun

@@ -1,0 +1,5 @@
+pub mod Hulls
+pub mod Intervals
+pub mod Loops
+pub mod Operators
+pub mod Safety

@@ -52,6 +52,7 @@ pub fn binary(op: Op, ty: Ty, a: Cell, b: Cell) -> Result<Cell, Trap>
     }
 }
 
+/// `a + b`, which wraps.
 #[inline]
 fn sum(ty: Ty, a: Cell, b: Cell) -> Cell
     ensures { result ≡ wrapped ty (a +ℤ b) }
@@ -59,6 +60,7 @@ fn sum(ty: Ty, a: Cell, b: Cell) -> Cell
     convert(ty, a.wrapping_add(b))
 }
 
+/// `a - b`, which wraps.
 #[inline]
 fn difference(ty: Ty, a: Cell, b: Cell) -> Cell
     ensures { result ≡ wrapped ty (a -ℤ b) }
@@ -66,6 +68,7 @@ fn difference(ty: Ty, a: Cell, b: Cell) -> Cell
     convert(ty, a.wrapping_sub(b))
 }
 
+/// `a * b`, which wraps.
 #[inline]
 fn product(ty: Ty, a: Cell, b: Cell) -> Cell
     ensures { result ≡ wrapped ty (a *ℤ b) }
@@ -73,7 +76,7 @@ fn product(ty: Ty, a: Cell, b: Cell) -> Cell
     convert(ty, a.wrapping_mul(b))
 }
 
-// The least number over -1 does not fit, and wraps.
+/// `a / b`, rounded toward 0, or `Divide`. The least number over -1 does not fit, and wraps.
 #[inline]
 fn quotient(ty: Ty, a: Cell, b: Cell) -> Result<Cell, Trap>
     ensures { result ≡ divided int_div ty a b }
@@ -84,7 +87,7 @@ fn quotient(ty: Ty, a: Cell, b: Cell) -> Result<Cell, Trap>
     Ok(convert(ty, a.wrapping_div(b)))
 }
 
-// A remainder is no further from 0 than its dividend, so it is in range.
+/// `a % b` with the sign of `a`, or `Divide`. It is no further from 0 than `a`, so it is in range.
 #[inline]
 fn remainder(ty: Ty, a: Cell, b: Cell) -> Result<Cell, Trap>
     requires { InRange ty a }
@@ -96,6 +99,7 @@ fn remainder(ty: Ty, a: Cell, b: Cell) -> Result<Cell, Trap>
     Ok(a.wrapping_rem(b))
 }
 
+/// `a << count`, which wraps; the count goes modulo the width.
 #[inline]
 fn shifted_left(ty: Ty, a: Cell, count: Cell) -> Cell
     ensures { result ≡ wrapped ty (a *ℤ pos (2 ^ places_of ty count)) }
@@ -103,6 +107,7 @@ fn shifted_left(ty: Ty, a: Cell, count: Cell) -> Cell
     convert(ty, a << places(ty, count))
 }
 
+/// `a >> count`, filled with copies of the sign; the count goes modulo the width.
 #[inline]
 fn shifted_right(ty: Ty, a: Cell, count: Cell) -> Cell
     ensures { result ≡ int_shr a (places_of ty count) }
@@ -110,7 +115,7 @@ fn shifted_right(ty: Ty, a: Cell, count: Cell) -> Cell
     a >> places(ty, count)
 }
 
-// The low bits of a count are the count modulo the width, also where it is negative.
+/// A shift's count modulo the width: its low bits, also where it is negative.
 #[inline]
 fn places(ty: Ty, count: Cell) -> u32
     ensures value { result ≡ places_of ty count }

@@ -12,8 +12,6 @@ mod choice;
 mod number;
 mod range;
 mod shape;
-#[cfg(test)]
-mod tests;
 
 pub use arithmetic::{binary, convert, wrap};
 pub use choice::{EdgeMode, Variant};

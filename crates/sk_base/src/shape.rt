@@ -95,6 +95,7 @@ impl Eq for Shape {
     ghost laws = { Prim.search (comparing, rules) };
 }
 
+/// Whether there are one to four sizes from 0 to `MOST_CELLS`, whatever their product.
 fn are_sizes(sizes: &[i64]) -> bool
     ensures { IsTrue result ↔ AreSizes sizes.now }
 {
@@ -104,6 +105,7 @@ fn are_sizes(sizes: &[i64]) -> bool
             .all(|size| (0..=i64::from(MOST_CELLS)).contains(size))
 }
 
+/// The sizes as unsigned numbers. They fit in place, so no memory is taken.
 fn numbers(alloc: Global, sizes: &[i64]) -> SmallVec<u32, 4>
     requires { AreSizes sizes.now }
     ensures items { result.items ≡ map unsigned_abs sizes.now }
@@ -116,7 +118,7 @@ fn numbers(alloc: Global, sizes: &[i64]) -> SmallVec<u32, 4>
     list
 }
 
-// The product, or one more than the most cells where it is larger: a size of 0 may still follow large ones.
+/// The product, or one more than the most cells where it is larger: a size of 0 may still follow large ones.
 fn bounded_product(sizes: &[u32]) -> u32
     ensures { result ≡ min (cells_of sizes.now) (2 ^ 24 + 1) }
 {

@@ -1,6 +1,6 @@
 -- What words ask for, by their number and the first of them.
 use Rattle.std.proofs.Common.{◌≡◌, ℕ, true, false, List, [], ◌∷◌, map, length, Some, None, refl, arith, ap, sym, subst, slice_index_or, codes}
-use Rattle.sk_tree.specs.Lexemes.{same_bytes}
+use Rattle.sk_names.specs.Bytes.{same_bytes}
 use Rattle.sk_cli.specs.Answer.{asked_of}
 
 module _ {W : Type 0} (bytes : W → List ℕ) where

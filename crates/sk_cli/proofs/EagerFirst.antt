@@ -9,11 +9,11 @@ use Rattle.sk_base.specs.ArithmeticLaws.{wrapped-same}
 use Rattle.sk_tree.specs.declared.tree.Expr.TheVariants as expression
 use Rattle.sk_tree.specs.declared.tree.Skeleton.TheVariants.{Map}
 use Rattle.sk_tree.specs.declared.tree.What.TheVariants as what
-use Rattle.sk_tree.specs.BindingsLaws.{bound_to-here}
-use Rattle.sk_tree.specs.Eager.{eager_of, over_of, End, Over, MapInstance, Container, Running, running_of, State}
-use Rattle.sk_tree.specs.Evaluation.{Callable, Callables, callable_of}
-use Rattle.sk_tree.specs.Formula.{map_element, map_of}
-use Rattle.sk_parser.specs.FirstForm.{Holes, AreFine, first_tree, first_function, at_line}
+use Rattle.sk_names.specs.BindingsLaws.{bound_to-here}
+use Rattle.sk_eager.specs.Eager.{eager_of, over_of, End, Over, MapInstance, Container, Running, running_of, State}
+use Rattle.sk_meaning.specs.Evaluation.{Callable, Callables, callable_of}
+use Rattle.sk_meaning.specs.Formula.{map_element, map_of}
+use Rattle.sk_first.specs.FirstForm.{Holes, AreFine, first_tree, first_function, at_line}
 use Rattle.sk_cli.specs.FirstProgram.{vector_in, print_in, element_in}
 use Rattle.sk_cli.proofs.FirstFunction.{first-value}
 use Rattle.sk_cli.proofs.FirstStatements.{stand, as_operand, instance-runs, vector-runs, elements_of-same, call-statement, call-runs, map-runs, result-one, print-statement, output-runs, element-one, element-same, return-statement, goes-on, ends}

@@ -11,17 +11,17 @@ use Rattle.sk_tree.specs.declared.tree.Expr.TheOpen as open'
 use Rattle.sk_tree.specs.declared.tree.Expr.TheVariants as expression
 use Rattle.sk_tree.specs.declared.tree.What.TheOpen as layer
 use Rattle.sk_tree.specs.declared.tree.What.TheVariants as what
-use Rattle.sk_tree.specs.Bindings.{bound_to}
-use Rattle.sk_tree.specs.BindingsLaws.{same_bytes-same}
-use Rattle.sk_tree.specs.Evaluation.{doing_of, doing_step, value_of, value_in, names_in, callable_of, Scope, scalar_binding, turn_limit, Value}
-use Rattle.sk_tree.specs.ExpressionLaws.{meaning-Number, meaning-Name, meaning-Binary}
-use Rattle.sk_tree.specs.Expressions.{Meaning, Names, meaning_of, meaning_step, operation_type, raised}
-use Rattle.sk_tree.specs.Lexemes.{same_bytes}
-use Rattle.sk_tree.specs.StatementLaws.{doing-statement, doing-roll}
-use Rattle.sk_parser.specs.FirstForm.{Holes, first_function, at_line}
-use Rattle.sk_parser.specs.declared.holes.Operator.{Operator}
-use Rattle.sk_parser.specs.declared.holes.Operator.TheVariants.{Plus, Minus, Times}
-use Rattle.sk_parser.specs.FirstForm as first
+use Rattle.sk_names.specs.Bindings.{bound_to}
+use Rattle.sk_names.specs.BytesLaws.{same_bytes-same}
+use Rattle.sk_meaning.specs.Evaluation.{doing_of, doing_step, value_of, value_in, names_in, callable_of, Scope, scalar_binding, turn_limit, Value}
+use Rattle.sk_tree.specs.FoldLaws.{folds-Number, folds-Name, folds-Binary}
+use Rattle.sk_meaning.specs.Expressions.{ExpressionMeaning, Names, meaning_of, meaning_step, operation_type, raised}
+use Rattle.sk_names.specs.Bytes.{same_bytes}
+use Rattle.sk_meaning.specs.EvaluationLaws.{doing-statement, doing-roll}
+use Rattle.sk_first.specs.FirstForm.{Holes, first_function, at_line}
+use Rattle.sk_first.specs.declared.holes.Operator.{Operator}
+use Rattle.sk_first.specs.declared.holes.Operator.TheVariants.{Plus, Minus, Times}
+use Rattle.sk_first.specs.FirstForm as first
 use Rattle.sk_cli.specs.FirstProgram.{exact_of, operation_in}
 
 -- what the function's statement does
@@ -46,8 +46,8 @@ with_parameter h x = (h.parameter, scalar_binding Int (pos x)) ∷ []
 operation-meaning : (h : Holes) → meaning_of {S = ℕ} {F = Trap} (operation_in h)
     ≡ meaning_step (open'.Binary (first.op_of h.operator) (meaning_step (open'.Name h.parameter)) (meaning_step (open'.Number Int (pos h.constant))))
 operation-meaning h =
-    meaning-Binary {S = ℕ} {F = Trap} (first.op_of h.operator) (expression.Name h.parameter) (expression.Number Int (pos h.constant))
-    ∙ rw (meaning-Name {S = ℕ} {F = Trap} h.parameter, meaning-Number {S = ℕ} {F = Trap} Int (pos h.constant)) refl
+    folds-Binary {X = ExpressionMeaning ℕ Trap} meaning_step (first.op_of h.operator) (expression.Name h.parameter) (expression.Number Int (pos h.constant))
+    ∙ rw (folds-Name {X = ExpressionMeaning ℕ Trap} meaning_step h.parameter, folds-Number {X = ExpressionMeaning ℕ Trap} meaning_step Int (pos h.constant)) refl
 
 -- an operator between a scalar and a number, whatever names mean
 between : (names : Names ℕ Trap) (op : Op) (name : List ℕ) (a b : ℤ) (turns : ℕ) → names.scalar name ≡ (Int, a)
@@ -65,7 +65,7 @@ operation-value : (h : Holes) (x turns : ℕ) → x ≤ 2147483647
     → value_in (operation_in h) [] (with_parameter h x) turns ≡ Ok (wrapped Int (exact_of h.operator (pos x) (pos h.constant)), turns)
 operation-value h x turns small =
     let names : Names ℕ Trap = names_in [] (with_parameter h x) in
-    ap (λ (m : Meaning ℕ Trap). m.value names turns) (operation-meaning h)
+    ap (λ (m : ExpressionMeaning ℕ Trap). m.value names turns) (operation-meaning h)
     ∙ between names (first.op_of h.operator) h.parameter (pos x) (pos h.constant) turns (parameter-scalar h x small)
     ∙ ap (λ (r : Result ℤ Trap). raised names r turns)
     (ap (λ (ty : Ty). op_of (first.op_of h.operator) ty (pos x) (pos h.constant)) (exact-type h.operator)

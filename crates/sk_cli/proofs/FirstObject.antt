@@ -5,9 +5,10 @@ use Rattle.std.proofs.lemmas.List.Elements.{All-cons, All-nil}
 use Rattle.std.specs.Prelude.{All, IsSome, int_le, unwrap_or}
 use Rattle.sk_base.specs.Arithmetic.{InRange}
 use Rattle.sk_base.specs.declared.number.Ty.TheVariants.{Int}
-use Rattle.sk_tree.specs.BindingsLaws.{same_bytes-same, bound_to-here}
-use Rattle.sk_tree.specs.Evaluation.{Value, value_only, turn_limit, callable_of, callables_of, apply_of}
-use Rattle.sk_tree.specs.Lexemes.{same_bytes}
+use Rattle.sk_names.specs.BytesLaws.{same_bytes-same}
+use Rattle.sk_names.specs.BindingsLaws.{bound_to-here}
+use Rattle.sk_meaning.specs.Evaluation.{Value, value_only, turn_limit, callable_of, callables_of, apply_of}
+use Rattle.sk_names.specs.Bytes.{same_bytes}
 use Rattle.sk_tree.specs.declared.tree.Expr.TheVariants as expression
 use Rattle.sk_tree.specs.declared.tree.Function.{Function}
 use Rattle.sk_tree.specs.declared.tree.ParamKind.TheVariants.{Scalar}
@@ -16,18 +17,18 @@ use Rattle.sk_tree.specs.declared.tree.Skeleton.TheVariants.{Map}
 use Rattle.sk_tree.specs.declared.tree.What.TheOpen as layer
 use Rattle.sk_tree.specs.declared.tree.What.TheVariants as what
 use Rattle.sk_base.specs.declared.choice.Variant.TheVariants.{Sequential}
-use Rattle.sk_codegen.specs.Means.{MeansSource}
-use Rattle.sk_codegen.specs.Plain.{IsPlain, IsPlainFunction, ArePlain, Judged, is_plain_expression, plain_expression_step, judged_of, judged_step, returns_of, returns_step}
-use Rattle.sk_codegen.specs.PlainLaws.{plain-Number, plain-Name, plain-Binary, judged-statement, judged-roll, returns-statement, returns-roll}
+use Rattle.sk_plain.specs.Means.{MeansSource}
+use Rattle.sk_plain.specs.Plain.{IsPlain, IsPlainFunction, ArePlain, Plainness, is_plain_expression, plain_expression_step, plainness_of, plainness_step, returns_of, returns_step}
+use Rattle.sk_plain.specs.PlainLaws.{plain-Number, plain-Name, plain-Binary, plainness-statement, plainness-roll, returns-statement, returns-roll}
 use Rattle.sk_isa.specs.Coded.{function_of}
 use Rattle.sk_isa.specs.Instances.{instance_meaning, signature_at}
 use Rattle.sk_isa.specs.Kernels.{Meaning}
-use Rattle.sk_isa.specs.Plans.{functions_object, functions_before_main, plan_of, plans_in}
-use Rattle.sk_isa.specs.Scheme.{Known, known_functions}
+use Rattle.sk_scheme.specs.Plans.{functions_object, functions_before_main, plan_of, plans_in}
+use Rattle.sk_scheme.specs.Scheme.{Known, known_functions}
 use Rattle.sk_isa.specs.Soundness.{IsSoundPlan}
 use Rattle.sk_isa.specs.declared.object.Object.{Object}
 use Rattle.sk_isa.specs.declared.object.Plan.{Plan}
-use Rattle.sk_parser.specs.FirstForm.{Holes, AreFine, first_tree, first_function, first_main, at_line, op_of}
+use Rattle.sk_first.specs.FirstForm.{Holes, AreFine, first_tree, first_function, first_main, at_line, op_of}
 use Rattle.sk_cli.specs.FirstProgram.{operation_in, element_in}
 use Rattle.sk_cli.specs.FirstRun.{IsFirstRun}
 use Rattle.sk_cli.specs.Parts.{parts_in}
@@ -57,8 +58,8 @@ first-expression h fine =
       small,
     ) refl
 
-first-judged : (h : Holes) (body : ℕ) → judged_of (at_line body (what.Return (operation_in h))) ≡ judged_step (layer.Return (operation_in h))
-first-judged h body = judged-statement body (what.Return (operation_in h)) ∙ rw (← what.rolls-Return (operation_in h)) (judged-roll (layer.Return (operation_in h)))
+first-judged : (h : Holes) (body : ℕ) → plainness_of (at_line body (what.Return (operation_in h))) ≡ plainness_step (layer.Return (operation_in h))
+first-judged h body = plainness-statement body (what.Return (operation_in h)) ∙ rw (← what.rolls-Return (operation_in h)) (plainness-roll (layer.Return (operation_in h)))
 
 first-returns : (h : Holes) (body : ℕ) → returns_of (at_line body (what.Return (operation_in h))) ≡ true
 first-returns h body = returns-statement body (what.Return (operation_in h)) ∙ rw (← what.rolls-Return (operation_in h)) (returns-roll (layer.Return (operation_in h)))

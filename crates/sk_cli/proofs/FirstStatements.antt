@@ -17,16 +17,17 @@ use Rattle.sk_tree.specs.declared.tree.Item.TheVariants as item
 use Rattle.sk_tree.specs.declared.tree.Skeleton.TheVariants.{Map}
 use Rattle.sk_tree.specs.declared.tree.What.TheOpen as layer
 use Rattle.sk_tree.specs.declared.tree.What.TheVariants as what
-use Rattle.sk_tree.specs.Bindings.{bound_to, rebound}
-use Rattle.sk_tree.specs.BindingsLaws.{same_bytes-same}
-use Rattle.sk_tree.specs.Eager.{End, all_run, and_run, item_run, printing, call_run, map_run, evaluated, main_names, Over, operands_of, sizes_in, with_result, leading_scalars, MapInstance, Container, Running, running_of, running_step, State}
-use Rattle.sk_tree.specs.Evaluation.{Callable, Callables, element_of}
-use Rattle.sk_tree.specs.ExpressionLaws.{meaning-Number, meaning-Apply}
-use Rattle.sk_tree.specs.Expressions.{Meaning, meaning_of, meaning_step}
-use Rattle.sk_tree.specs.Formula.{Operand, TrapAt, elements_of, map_of}
-use Rattle.sk_tree.specs.Lexemes.{same_bytes}
-use Rattle.sk_tree.specs.StatementLaws.{running_what, running-statement, running-roll}
-use Rattle.sk_parser.specs.FirstForm.{at_line}
+use Rattle.sk_names.specs.Bindings.{bound_to, rebound}
+use Rattle.sk_names.specs.BytesLaws.{same_bytes-same}
+use Rattle.sk_eager.specs.Eager.{End, all_run, and_run, item_run, printing, call_run, map_run, evaluated, main_names, Over, operands_of, sizes_in, with_result, MapInstance, Container, Running, running_of, running_step, State}
+use Rattle.sk_tree.specs.Parameters.{leading_scalars}
+use Rattle.sk_meaning.specs.Evaluation.{Callable, Callables, element_of}
+use Rattle.sk_tree.specs.FoldLaws.{folds-Number, folds-Apply}
+use Rattle.sk_meaning.specs.Expressions.{ExpressionMeaning, meaning_of, meaning_step}
+use Rattle.sk_meaning.specs.Formula.{Operand, TrapAt, elements_of, map_of}
+use Rattle.sk_names.specs.Bytes.{same_bytes}
+use Rattle.sk_eager.specs.EagerLaws.{running_what, running-statement, running-roll}
+use Rattle.sk_first.specs.FirstForm.{at_line}
 
 -- a state of main, by its parts
 abbrev pub stand : Callables → List (List ℕ × MapInstance) → List (List ℕ × Container) → List ℕ → ℕ → ℕ → State
@@ -98,7 +99,7 @@ vector-runs name n x callables instances containers printed fewer last line few 
     let state : State = stand callables instances containers printed (suc fewer) last in
     let shape : shape_of (pos n ∷ []) ≡ Some (n ∷ []) = shape_of-one n few in
     level-Make 1 Int name (expression.Number Int (pos n) ∷ expression.Number Int (pos x) ∷ []) line state
-    ∙ rw (meaning-Number Int (pos n), meaning-Number Int (pos x), shape) refl
+    ∙ rw (folds-Number (meaning_step {S = State} {F = Over}) Int (pos n), folds-Number (meaning_step {S = State} {F = Over}) Int (pos x), shape) refl
 
 -- an element function with one value throughout
 pub elements_of-same : (element : ℕ → Result ℤ Trap) (value : ℤ) (first count : ℕ)
@@ -147,7 +148,7 @@ result-one vector container cells callables instances printed left line =
 pub apply-literal : (name : List ℕ) (at : ℕ) → meaning_of {S = State} {F = Over} (expression.Apply name (expression.Number Int (pos at) ∷ []))
     ≡ meaning_step (open'.Apply name (meaning_step (open'.Number Int (pos at)) ∷ []))
 apply-literal name at =
-    meaning-Apply {S = State} {F = Over} name (expression.Number Int (pos at) ∷ []) ∙ rw (meaning-Number {S = State} {F = Over} Int (pos at)) refl
+    folds-Apply {X = ExpressionMeaning State Over} meaning_step name (expression.Number Int (pos at) ∷ []) ∙ rw (folds-Number {X = ExpressionMeaning State Over} meaning_step Int (pos at)) refl
 
 pub main-apply : (name : List ℕ) (names : List (List ℕ)) (place : List ℤ) (state : State) (container : Container) (value : ℤ)
     → bound_to name state.containers ≡ Some container → element_of container.sizes container.cells place ≡ Ok value
@@ -158,7 +159,7 @@ pub element-one : (name : List ℕ) (at : ℕ) (state : State) (container : Cont
     → element_of container.sizes container.cells (pos at ∷ []) ≡ Ok value
     → evaluated (expression.Apply name (expression.Number Int (pos at) ∷ [])) state ≡ Ok (value, state)
 element-one name at state container value is gives =
-    ap (λ (m : Meaning State Over). m.value (main_names state) state) (apply-literal name at)
+    ap (λ (m : ExpressionMeaning State Over). m.value (main_names state) state) (apply-literal name at)
     ∙ main-apply name ([] ∷ []) (pos at ∷ []) state container value is gives
 
 -- an element of equal cells
@@ -192,7 +193,7 @@ print-statement line items callables instances containers printed fewer last =
 
 pub evaluated-number : (number : ℤ) (state : State) → evaluated (expression.Number Int number) state ≡ Ok (number, state)
 evaluated-number number state =
-    ap (λ (m : Meaning State Over). m.value (main_names state) state) (meaning-Number {S = State} {F = Over} Int number)
+    ap (λ (m : ExpressionMeaning State Over). m.value (main_names state) state) (folds-Number {X = ExpressionMeaning State Over} meaning_step Int number)
 
 pub return-statement : (line : ℕ) (number : ℤ) (callables : Callables) (instances : _) (containers : _) (printed : List ℕ) (fewer last : ℕ)
     → running_of (at_line line (what.Return (expression.Number Int number))) (stand callables instances containers printed (suc fewer) last)

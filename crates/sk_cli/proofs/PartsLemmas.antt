@@ -2,7 +2,7 @@
 use Rattle.std.proofs.Common.{◌≡◌, ◌<◌, ◌^◌, ℕ, ℤ, pos, Ok, List, replicate, to_z, of_z, w64, arith, ap, subst, ◌∙◌}
 use Rattle.std.proofs.lemmas.Int.{to_z-of_z}
 use Rattle.std.specs.Prelude.{nat_abs}
-use Rattle.sk_parser.specs.FirstForm.{Holes, AreFine}
+use Rattle.sk_first.specs.FirstForm.{Holes, AreFine}
 use Rattle.sk_cli.specs.declared.parts.Parts.{Parts}
 use Rattle.sk_cli.specs.Parts.{parts_in}
 

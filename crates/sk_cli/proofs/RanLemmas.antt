@@ -1,8 +1,8 @@
 -- The answer to a source of the first form.
 use Rattle.std.proofs.Common.{◌≡◌, ℕ, List, [], map, ap, ◌∙◌}
-use Rattle.sk_parser.specs.FirstForm.{IsFirst}
+use Rattle.sk_first.specs.FirstForm.{IsFirst}
 use Rattle.sk_tree.specs.declared.tree.Program.{Program}
-use Rattle.sk_tree.specs.Eager.{eager_of, EagerRun, Ending, End}
+use Rattle.sk_eager.specs.Eager.{eager_of, EagerRun, Ending, End}
 use Rattle.sk_cli.specs.Answer.{Read, answer_of, ended, statement_limit}
 use Rattle.sk_cli.specs.FirstProgram.{IsFirstProgram}
 use Rattle.sk_cli.proofs.EagerFirst.{eager-first}

@@ -6,9 +6,9 @@ use Rattle.sk_base.specs.declared.number.Trap.TheVariants.{Divide, Index, Turns,
 use Rattle.std.specs.Io.KnownBytes.{Appends}
 use Rattle.sk_outside.specs.Faults.{Faults, Rose}
 use Rattle.sk_outside.specs.Holding.{Contents, Tells, SinkHolding, AppendsPrefix}
-use Rattle.sk_parser.specs.FirstForm.{IsFirst, IsNotFirst}
-use Rattle.sk_tree.specs.Eager.{Ending, End, Trapped, Bound, EagerRun, eager_of}
-use Rattle.sk_tree.specs.Lexemes.{same_bytes}
+use Rattle.sk_first.specs.FirstForm.{IsFirst, IsNotFirst}
+use Rattle.sk_eager.specs.Eager.{Ending, End, Trapped, Bound, EagerRun, eager_of}
+use Rattle.sk_names.specs.Bytes.{same_bytes}
 use Rattle.sk_tree.specs.declared.tree.Program.{Program}
 
 -- the status of a call, the bytes that it prints, and the line that it puts on the error stream, if any

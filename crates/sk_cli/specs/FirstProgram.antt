@@ -3,9 +3,9 @@ use Rattle.std.specs.Prelude.{◌≡◌, ℕ, List, [], ◌∷◌, ℤ, pos, ◌
 use Rattle.sk_base.specs.Arithmetic.{wrapped}
 use Rattle.sk_base.specs.declared.number.Op.{Op}
 use Rattle.sk_base.specs.declared.number.Ty.TheVariants.{Int}
-use Rattle.sk_parser.specs.FirstForm.{Holes, AreFine, op_of, first_tree, at_line}
-use Rattle.sk_parser.specs.declared.holes.Operator.{Operator}
-use Rattle.sk_parser.specs.declared.holes.Operator.TheVariants.{Plus, Minus, Times}
+use Rattle.sk_first.specs.FirstForm.{Holes, AreFine, op_of, first_tree, at_line}
+use Rattle.sk_first.specs.declared.holes.Operator.{Operator}
+use Rattle.sk_first.specs.declared.holes.Operator.TheVariants.{Plus, Minus, Times}
 use Rattle.sk_tree.specs.declared.tree.Expr.{Expr}
 use Rattle.sk_tree.specs.declared.tree.Expr.TheVariants.{Number, Name, Binary, Apply}
 use Rattle.sk_tree.specs.declared.tree.Item.{Item}

@@ -5,8 +5,8 @@ ghost use Rattle.sk_cli.specs.Answer.{Answer, Reading, IsAnswer, IsReading, Give
 use crate::first_run::run_first;
 use crate::report::{WANT_OF_MEMORY, tell, tell_read_fault};
 use crate::words::asked;
+use sk_first::{FirstFault, first};
 use sk_outside::{FileAnswer, Files, Sink, WriteAnswer};
-use sk_parser::{FirstFault, first};
 use std::alloc::Global;
 
 /// How many bytes a source may have: 1 MiB.

@@ -4,11 +4,11 @@ ghost use Rattle.std.specs.Fmt.{signed_decimal};
 ghost use Rattle.std.specs.Io.KnownBytes.{Appends};
 ghost use Rattle.sk_outside.specs.Faults.{Rose};
 ghost use Rattle.sk_outside.specs.Holding.{AppendsPrefix};
-ghost use Rattle.sk_tree.specs.Eager.{eager_of};
+ghost use Rattle.sk_eager.specs.Eager.{eager_of};
 ghost use Rattle.sk_cli.specs.Answer.{statement_limit};
 ghost use Rattle.sk_cli.specs.FirstProgram.{IsFirstProgram, element_in};
 ghost use Rattle.sk_cli.specs.FirstRun.{IsFirstRun};
-ghost use Rattle.sk_parser.specs.FirstForm.{Holes};
+ghost use Rattle.sk_first.specs.FirstForm.{Holes};
 
 use crate::parts::{Parts, parts_of};
 use crate::vector_map::mapped;

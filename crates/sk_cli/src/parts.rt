@@ -1,7 +1,7 @@
 //! The numbers that stand in the tree of a program of the first form.
 ghost use Rattle.std.specs.Prelude.{◌≡◌, ℕ, ℤ, pos, Some, List};
 ghost use Rattle.sk_base.specs.declared.number.Ty.{Ty as Types};
-ghost use Rattle.sk_parser.specs.FirstForm.{Holes, first_main, first_tree};
+ghost use Rattle.sk_first.specs.FirstForm.{Holes, first_main, first_tree};
 ghost use Rattle.sk_tree.specs.declared.tree.Expr.TheVariants as expression;
 ghost use Rattle.sk_cli.specs.FirstProgram.{vector_in, at_in, print_in};
 ghost use Rattle.sk_cli.specs.Parts.{parts_in};

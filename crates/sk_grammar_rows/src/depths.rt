@@ -134,18 +134,22 @@ static ONE_WANTED: [&str; 27] = [
     "return -1;",
 ];
 
+/// The table `ONE_LEFT`.
 fn one_left() -> &'static [(&'static str, &'static str)] {
     &ONE_LEFT
 }
 
+/// The table `TWO_WANTED`.
 fn two_wanted() -> &'static [&'static str] {
     &TWO_WANTED
 }
 
+/// The table `NONE_LEFT`.
 fn none_left() -> &'static [(&'static str, &'static str)] {
     &NONE_LEFT
 }
 
+/// The table `ONE_WANTED`.
 fn one_wanted() -> &'static [&'static str] {
     &ONE_WANTED
 }
@@ -157,12 +161,14 @@ fn source_of(alloc: Global, ifs: usize, statement: &str) -> Result<String, Alloc
     format!(in alloc; "int main() {{ {opened}{statement}{closed} }}")
 }
 
+/// The tree of a statement inside so many ifs.
 fn tree_of(alloc: Global, ifs: usize, tree: &str) -> Result<String, AllocError> {
     let opened = "(if a {".repeat(alloc, ifs)?;
     let closed = "} {})".repeat(alloc, ifs)?;
     format!(in alloc; "(int main [] {{{opened}{tree}{closed}}})")
 }
 
+/// Inside so many ifs, each of the rows has its tree.
 fn expect_kept(
     rt: &impl Abort,
     alloc: Global,
@@ -177,6 +183,7 @@ fn expect_kept(
     Ok(())
 }
 
+/// Inside so many ifs, each of the rows is refused as too deep.
 fn expect_too_deep(rt: &impl Abort, alloc: Global, ifs: usize, rows: &[&str]) -> Result<(), Fail> {
     for statement in rows {
         let source = source_of(alloc, ifs, statement)?;

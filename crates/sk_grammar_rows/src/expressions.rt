@@ -144,18 +144,22 @@ static GROUPS: [(&str, &str); 29] = [
     ("a > b >= c", "(>= (> a b) c)"),
 ];
 
+/// The table `FORMS`.
 fn forms() -> &'static [(&'static str, &'static str)] {
     &FORMS
 }
 
+/// The table `PREFIXES`.
 fn prefixes() -> &'static [(&'static str, &'static str)] {
     &PREFIXES
 }
 
+/// The table `LEVELS`.
 fn levels() -> &'static [(&'static str, &'static str)] {
     &LEVELS
 }
 
+/// The table `GROUPS`.
 fn groups() -> &'static [(&'static str, &'static str)] {
     &GROUPS
 }

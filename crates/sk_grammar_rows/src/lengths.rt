@@ -98,14 +98,17 @@ static ABOVE: [(Parts, u32); 8] = [
     (("int main() { return ", "v[", "", "", ""), 5000),
 ];
 
+/// The table `FREE`.
 fn free() -> &'static [Row] {
     &FREE
 }
 
+/// The table `SHORT`.
 fn short() -> &'static [Row] {
     &SHORT
 }
 
+/// The table `ABOVE`.
 fn above() -> &'static [(Parts, u32)] {
     &ABOVE
 }

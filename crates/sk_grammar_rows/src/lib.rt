@@ -5,6 +5,7 @@
 //! - `lines`: the lines in them.
 //! - `reading`: from a source to its tree, and back.
 //! - `expressions`, `statements`, `programs`: accepted sources.
+//! - `printed`: sources with the texts that they are printed as.
 //! - `refused_expressions`, `refused_statements`, `refused_programs`: refused ones.
 //! - `places`: refused sources with the token that is told.
 //! - `repeated`: texts in which a part stands many times.
@@ -25,6 +26,8 @@ mod limits;
 mod lines;
 #[cfg(test)]
 mod places;
+#[cfg(test)]
+mod printed;
 #[cfg(test)]
 mod programs;
 #[cfg(test)]

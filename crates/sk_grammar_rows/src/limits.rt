@@ -280,14 +280,17 @@ static COUNTS: [Row; 5] = [
     ),
 ];
 
+/// The table `NESTING`.
 fn nesting() -> &'static [Row] {
     &NESTING
 }
 
+/// The table `NODES`.
 fn nodes() -> &'static [Row] {
     &NODES
 }
 
+/// The table `COUNTS`.
 fn counts() -> &'static [Row] {
     &COUNTS
 }

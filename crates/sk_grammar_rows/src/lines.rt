@@ -3,6 +3,7 @@ use sk_tree::{Program, Statement, What};
 use std::alloc::{AllocError, Global};
 use std::fmt::Write;
 
+/// Appends the line of a statement, and those of the statements in it.
 #[cycle(lines)]
 fn put_lines(out: &mut String, statement: &Statement) -> Result<(), AllocError> {
     let line = statement.line;
@@ -21,6 +22,7 @@ fn put_lines(out: &mut String, statement: &Statement) -> Result<(), AllocError> 
     }
 }
 
+/// Appends the lines of each of the statements.
 #[cycle(lines)]
 fn put_lines_in(out: &mut String, statements: &[Statement]) -> Result<(), AllocError> {
     for statement in statements {

@@ -99,14 +99,17 @@ static LIMITS: [LimitRow; 9] = [
     ),
 ];
 
+/// The table `FUNCTIONS`.
 fn functions() -> &'static [Row] {
     &FUNCTIONS
 }
 
+/// The table `STATEMENTS`.
 fn statements() -> &'static [Row] {
     &STATEMENTS
 }
 
+/// The table `LIMITS`.
 fn limits() -> &'static [LimitRow] {
     &LIMITS
 }
@@ -123,6 +126,7 @@ fn told(rt: &impl Abort, alloc: Global, source: &str) -> Result<String, Fail> {
     }
 }
 
+/// The source has a syntax fault at this token.
 fn expect_syntax(rt: &impl Abort, alloc: Global, source: &str, token: u32) -> Result<(), Fail> {
     let wanted = format!(in alloc; "a syntax fault at token {token}")?;
     let told = told(rt, alloc, source)?;

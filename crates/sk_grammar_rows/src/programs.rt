@@ -115,10 +115,12 @@ static LINES: [(&str, &str); 12] = [
 
 type Rows = &'static [(&'static str, &'static str)];
 
+/// The table `PROGRAMS`.
 fn programs() -> Rows {
     &PROGRAMS
 }
 
+/// The table `LINES`.
 fn line_rows() -> Rows {
     &LINES
 }

@@ -1,6 +1,6 @@
 //! From a source to its tree, and back.
 ghost use Rattle.std.specs.Prelude.{IfOk, IfSome};
-ghost use Rattle.sk_tree.specs.Grammar.{IsFromText};
+ghost use Rattle.sk_grammar.specs.Grammar.{IsFromText};
 
 use crate::lines::lines;
 use crate::written::written;
@@ -92,6 +92,26 @@ pub fn expect_accepted(
             expect_back(rt, alloc, row, &program, tree)?;
         }
         None => assert!(rt; false, "{row} is refused"),
+    }
+    Ok(())
+}
+
+/// The source is printed as this text.
+pub fn expect_printed(
+    rt: &impl Abort,
+    alloc: Global,
+    source: &str,
+    wanted: &str,
+) -> Result<(), Fail> {
+    match read(rt, alloc, source.as_bytes())? {
+        Some(program) => {
+            let printed = print(alloc, &program)?;
+            assert!(rt;
+                printed.as_slice() == wanted.as_bytes(),
+                "{source}, printed"
+            );
+        }
+        None => assert!(rt; false, "{source} is refused"),
     }
     Ok(())
 }

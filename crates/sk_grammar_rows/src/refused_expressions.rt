@@ -109,10 +109,12 @@ static PRIMARIES: [&str; 63] = [
     "f(a) g(b)",
 ];
 
+/// The table `OPERATORS`.
 fn operators() -> &'static [&'static str] {
     &OPERATORS
 }
 
+/// The table `PRIMARIES`.
 fn primaries() -> &'static [&'static str] {
     &PRIMARIES
 }

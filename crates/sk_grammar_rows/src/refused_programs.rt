@@ -99,10 +99,12 @@ static PARAMETERS: [&str; 52] = [
     "skepu:Vec<int> v",
 ];
 
+/// The table `FUNCTIONS`.
 fn functions() -> &'static [&'static str] {
     &FUNCTIONS
 }
 
+/// The table `PARAMETERS`.
 fn parameters() -> &'static [&'static str] {
     &PARAMETERS
 }

@@ -313,30 +313,37 @@ static BRANCHES: [&str; 55] = [
     "for (i = 0 : a; i++) { }",
 ];
 
+/// The table `ASSIGNMENTS`.
 fn assignments() -> &'static [&'static str] {
     &ASSIGNMENTS
 }
 
+/// The table `SCALARS`.
 fn scalars() -> &'static [&'static str] {
     &SCALARS
 }
 
+/// The table `CONTAINERS`.
 fn containers() -> &'static [&'static str] {
     &CONTAINERS
 }
 
+/// The table `INSTANCES`.
 fn instances() -> &'static [&'static str] {
     &INSTANCES
 }
 
+/// The table `SETTINGS`.
 fn settings() -> &'static [&'static str] {
     &SETTINGS
 }
 
+/// The table `PRINTS`.
 fn prints() -> &'static [&'static str] {
     &PRINTS
 }
 
+/// The table `BRANCHES`.
 fn branches() -> &'static [&'static str] {
     &BRANCHES
 }

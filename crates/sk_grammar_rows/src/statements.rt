@@ -271,18 +271,22 @@ static BRANCHES: [(&str, &str); 23] = [
 
 type Rows = &'static [(&'static str, &'static str)];
 
+/// The table `ASSIGNMENTS`.
 fn assignments() -> Rows {
     &ASSIGNMENTS
 }
 
+/// The table `DECLARATIONS`.
 fn declarations() -> Rows {
     &DECLARATIONS
 }
 
+/// The table `ACTIONS`.
 fn actions() -> Rows {
     &ACTIONS
 }
 
+/// The table `BRANCHES`.
 fn branches() -> Rows {
     &BRANCHES
 }

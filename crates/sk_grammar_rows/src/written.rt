@@ -8,13 +8,16 @@
 //! - Functions: `(int f [int a, index1 p, view1 int v, region1 int r] {..})`.
 //!
 //! One blank stands between statements, and between functions. Lines are not told.
+use sk_base::{EdgeMode, Op, Ty};
+use sk_names::{Name, Text};
 use sk_tree::{
-    EdgeMode, Expr, Function, Instance, Item, Name, Op, Param, ParamKind, Program, Setting,
-    Skeleton, Statement, Text, Ty, Un, What,
+    Expr, Function, Instance, Item, Param, ParamKind, Program, Setting, Skeleton, Statement, Un,
+    What,
 };
 use std::alloc::{AllocError, Global};
 use std::fmt::Write;
 
+/// The word for a type.
 fn type_name(ty: Ty) -> &'static str {
     match ty {
         Ty::Int => "int",
@@ -22,6 +25,7 @@ fn type_name(ty: Ty) -> &'static str {
     }
 }
 
+/// The sign of a prefix operator.
 fn prefix(op: Un) -> &'static str {
     match op {
         Un::Neg => "-",
@@ -30,6 +34,7 @@ fn prefix(op: Un) -> &'static str {
     }
 }
 
+/// The sign of an operator.
 fn sign(op: Op) -> &'static str {
     match op {
         Op::Add => "+",
@@ -51,6 +56,7 @@ fn sign(op: Op) -> &'static str {
     }
 }
 
+/// The name of a skeleton.
 fn skeleton(skeleton: Skeleton) -> &'static str {
     match skeleton {
         Skeleton::Map => "Map",
@@ -64,6 +70,7 @@ fn skeleton(skeleton: Skeleton) -> &'static str {
     }
 }
 
+/// Appends bytes as characters.
 fn put_bytes(out: &mut String, bytes: &[u8]) -> Result<(), AllocError> {
     for byte in bytes {
         out.push(char::from(*byte))?;
@@ -71,22 +78,26 @@ fn put_bytes(out: &mut String, bytes: &[u8]) -> Result<(), AllocError> {
     Ok(())
 }
 
+/// Appends a name.
 fn put_name(out: &mut String, name: &Name) -> Result<(), AllocError> {
     put_bytes(out, name.as_bytes())
 }
 
+/// Appends a text between quotes, as it is.
 fn put_text(out: &mut String, text: &Text) -> Result<(), AllocError> {
     out.push_str("\"")?;
     put_bytes(out, text.as_bytes())?;
     out.push_str("\"")
 }
 
+/// Appends a name and what it is asked for.
 fn put_field(out: &mut String, name: &Name, field: &Name) -> Result<(), AllocError> {
     put_name(out, name)?;
     out.push_str(".")?;
     put_name(out, field)
 }
 
+/// Appends an expression.
 #[cycle(expression)]
 fn put(out: &mut String, expr: &Expr) -> Result<(), AllocError> {
     match expr {
@@ -126,6 +137,7 @@ fn put(out: &mut String, expr: &Expr) -> Result<(), AllocError> {
     Ok(())
 }
 
+/// Appends a sign and its one operand, in parentheses.
 #[cycle(expression)]
 fn put_one(out: &mut String, sign: &str, part: &Expr) -> Result<(), AllocError> {
     put_first(out, sign, part)?;
@@ -149,6 +161,7 @@ fn put_last(out: &mut String, part: &Expr) -> Result<(), AllocError> {
     out.push_str(")")
 }
 
+/// Appends a name with arguments.
 #[cycle(expression)]
 fn put_applied(out: &mut String, name: &Name, arguments: &[Expr]) -> Result<(), AllocError> {
     put_name(out, name)?;
@@ -157,6 +170,7 @@ fn put_applied(out: &mut String, name: &Name, arguments: &[Expr]) -> Result<(), 
     out.push_str(")")
 }
 
+/// Appends values with blanks between.
 #[cycle(expression)]
 fn put_all(out: &mut String, values: &[Expr]) -> Result<(), AllocError> {
     let mut lead = "";
@@ -168,18 +182,21 @@ fn put_all(out: &mut String, values: &[Expr]) -> Result<(), AllocError> {
     Ok(())
 }
 
+/// Appends a word with values behind it.
 fn put_valued(out: &mut String, word: &str, values: &[Expr]) -> Result<(), AllocError> {
     out.push_str(word)?;
     out.push_str(" ")?;
     put_all(out, values)
 }
 
+/// Appends a word with a value behind it.
 fn put_value(out: &mut String, word: &str, value: &Expr) -> Result<(), AllocError> {
     out.push_str(word)?;
     out.push_str(" ")?;
     put(out, value)
 }
 
+/// Appends a setting with its value.
 fn put_setting(out: &mut String, setting: &Setting) -> Result<(), AllocError> {
     match setting {
         Setting::Start(value) => put_value(out, "start", value),
@@ -195,6 +212,7 @@ fn put_setting(out: &mut String, setting: &Setting) -> Result<(), AllocError> {
     }
 }
 
+/// Appends the functions of an instance.
 fn put_functions(out: &mut String, functions: &[Name]) -> Result<(), AllocError> {
     for function in functions {
         out.push_str(" ")?;
@@ -203,6 +221,7 @@ fn put_functions(out: &mut String, functions: &[Name]) -> Result<(), AllocError>
     Ok(())
 }
 
+/// Appends the declaration of an instance.
 fn put_instance(out: &mut String, instance: &Instance) -> Result<(), AllocError> {
     put_name(out, &instance.name)?;
     out.push_str(" ")?;
@@ -217,6 +236,7 @@ fn put_instance(out: &mut String, instance: &Instance) -> Result<(), AllocError>
     put_functions(out, instance.functions.as_slice())
 }
 
+/// Appends a printed item.
 fn put_item(out: &mut String, item: &Item) -> Result<(), AllocError> {
     match item {
         Item::Value(value) => put(out, value),
@@ -225,6 +245,7 @@ fn put_item(out: &mut String, item: &Item) -> Result<(), AllocError> {
     }
 }
 
+/// Appends printed items.
 fn put_items(out: &mut String, items: &[Item]) -> Result<(), AllocError> {
     for item in items {
         out.push_str(" ")?;
@@ -293,6 +314,7 @@ fn put_plain(out: &mut String, what: &What) -> Result<(), AllocError> {
     }
 }
 
+/// Appends a statement.
 #[cycle(statement)]
 fn put_statement(out: &mut String, statement: &Statement) -> Result<(), AllocError> {
     out.push_str("(")?;
@@ -328,6 +350,7 @@ fn put_block(out: &mut String, statements: &[Statement]) -> Result<(), AllocErro
     out.push_str("}")
 }
 
+/// Appends a parameter with its kind.
 fn put_param(out: &mut String, param: &Param) -> Result<(), AllocError> {
     match param.kind {
         ParamKind::Scalar(ty) => out.push_str(type_name(ty))?,
@@ -345,6 +368,7 @@ fn put_param(out: &mut String, param: &Param) -> Result<(), AllocError> {
     put_name(out, &param.name)
 }
 
+/// Appends parameters with commas between.
 fn put_params(out: &mut String, params: &[Param]) -> Result<(), AllocError> {
     let mut lead = "";
     for param in params {
@@ -355,6 +379,7 @@ fn put_params(out: &mut String, params: &[Param]) -> Result<(), AllocError> {
     Ok(())
 }
 
+/// Appends a function.
 fn put_function(out: &mut String, function: &Function) -> Result<(), AllocError> {
     out.push_str("(")?;
     out.push_str(type_name(function.ret))?;

@@ -5,8 +5,8 @@ use Rattle.sk_base.specs.declared.number.Trap.{Trap}
 use Rattle.sk_base.specs.declared.number.Trap.TheVariants.{Turns}
 use Rattle.sk_base.specs.Arithmetic.{wrapped, op_of}
 use Rattle.sk_tree.specs.declared.tree.Un.TheVariants as prefix
-use Rattle.sk_tree.specs.Evaluation.{Argument, Value, field_of, element_at, number_in}
-use Rattle.sk_tree.specs.Expressions.{holds, prefix_of}
+use Rattle.sk_meaning.specs.Evaluation.{Argument, Value, field_of, element_at, number_in}
+use Rattle.sk_meaning.specs.Expressions.{holds, prefix_of}
 use Rattle.sk_isa.specs.declared.code.Code.{Code}
 use Rattle.sk_isa.specs.declared.code.Instr.{Instr}
 use Rattle.sk_isa.specs.declared.code.Instr.TheVariants.{Push, Pop, Load, Store, Field, Size, Item, Region, Neg, Inv, Not, Wrap, Binary, Jump, Zero, Turn, Call, Ret, Count, Make, Take, Drop, Set, Do, Get, Poke, Print, Text, Endl, Halt}

@@ -4,7 +4,7 @@ use Rattle.std.specs.List.{list_all}
 use Rattle.sk_base.specs.declared.number.Ty.{Ty}
 use Rattle.sk_base.specs.declared.number.Ty.TheVariants.{Int}
 use Rattle.sk_base.specs.declared.number.Trap.{Trap}
-use Rattle.sk_tree.specs.Evaluation.{Argument, Value, turn_limit, value_only}
+use Rattle.sk_meaning.specs.Evaluation.{Argument, Value, turn_limit, value_only}
 use Rattle.sk_tree.specs.declared.tree.ParamKind.{ParamKind}
 use Rattle.sk_tree.specs.declared.tree.ParamKind.TheVariants.{Scalar}
 use Rattle.sk_tree.specs.declared.tree.Skeleton.{Skeleton}

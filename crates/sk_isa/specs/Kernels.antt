@@ -5,7 +5,7 @@ use Rattle.sk_base.specs.declared.number.Ty.TheVariants.{Int}
 use Rattle.sk_base.specs.declared.number.Trap.{Trap}
 use Rattle.sk_base.specs.Arithmetic.{InRange}
 use Rattle.sk_base.specs.Shape.{IsShape, cells_of}
-use Rattle.sk_tree.specs.Evaluation.{kind_type}
+use Rattle.sk_meaning.specs.Evaluation.{kind_type}
 use Rattle.sk_tree.specs.declared.tree.ParamKind.{ParamKind}
 use Rattle.sk_tree.specs.declared.tree.ParamKind.TheVariants.{Scalar, Index, Proxy, Region}
 

@@ -1,12 +1,5 @@
 pub mod Coded
 pub mod Instances
 pub mod Kernels
-pub mod Laws
-pub mod Listing
-pub mod Plans
-pub mod Ranks
-pub mod Scheme
-pub mod SchemeLaws
 pub mod Soundness
-pub mod Steps
 pub mod Vectors

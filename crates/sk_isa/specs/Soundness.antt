@@ -8,12 +8,11 @@ use Rattle.sk_base.specs.declared.choice.Variant.TheVariants.{Sequential}
 use Rattle.sk_base.specs.declared.number.Trap.{Trap}
 use Rattle.sk_base.specs.Arithmetic.{InRange, is_shift}
 use Rattle.sk_base.specs.Shape.{IsShape, cells_of}
-use Rattle.sk_tree.specs.Eager.{leading_scalars}
-use Rattle.sk_tree.specs.Evaluation.{Argument, Value, Place, Whole, Neighbours}
-use Rattle.sk_tree.specs.Expressions.{result_type}
-use Rattle.sk_tree.specs.TypingInstances.{function_count, is_operator, fits_skeleton}
-use Rattle.sk_tree.specs.TypingNames.{are_ordered, is_field}
-pub use Rattle.sk_tree.specs.TypingNames.{is_scalar}
+use Rattle.sk_tree.specs.Parameters.{leading_scalars, are_ordered, is_field}
+use Rattle.sk_meaning.specs.Evaluation.{Argument, Value, Place, Whole, Neighbours}
+use Rattle.sk_meaning.specs.Expressions.{result_type}
+use Rattle.sk_tree.specs.Skeletons.{function_count, is_operator, fits_skeleton}
+pub use Rattle.sk_tree.specs.Parameters.{is_scalar}
 use Rattle.sk_tree.specs.declared.tree.ParamKind.{ParamKind}
 use Rattle.sk_tree.specs.declared.tree.ParamKind.TheVariants.{Scalar, Index, Proxy, Region as RegionKind}
 use Rattle.sk_tree.specs.declared.tree.Skeleton.{Skeleton}

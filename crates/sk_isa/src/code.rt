@@ -1,5 +1,5 @@
 use sk_base::{Cell, Op, Ty};
-use sk_tree::{Name, Text};
+use sk_names::{Name, Text};
 use sqlite_items::Items;
 
 /// An instruction. Addresses count from 0 in each code; slots, functions, containers and instances have numbers from 0.

@@ -1,6 +1,7 @@
 use crate::code::Code;
 use sk_base::{Ty, Variant};
-use sk_tree::{Declared, Name, Operator, ParamKind, Skeleton};
+use sk_names::Name;
+use sk_tree::{Declared, Operator, ParamKind, Skeleton};
 use sqlite_items::Items;
 
 /// What a function takes and gives: the type of its value, the kinds of its parameters, and those of all its slots, which

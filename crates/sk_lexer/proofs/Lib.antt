@@ -1,10 +1,3 @@
-pub mod Blanks
-pub mod Longest
-pub mod Numbers
-pub mod PieceLemmas
+pub mod Fronts
 pub mod PlaceLemmas
-pub mod Prefixes
-pub mod Runs
-pub mod Signs
-pub mod Strings
-pub mod Words
+pub mod Reached

@@ -6,8 +6,8 @@ use Rattle.std.proofs.lemmas.Bool.{cases_Bool}
 use Rattle.std.proofs.lemmas.List.{length-append, reverse-append, append-nil}
 use Rattle.std.proofs.lemmas.List.Sums.{take_while-cons, fold-append}
 use Rattle.std.proofs.Math.Seq.{take-suc}
-use Rattle.sk_tree.specs.Lexemes.{is_blank}
-use Rattle.sk_tree.specs.Tokens.{line_after, is_line_start}
+use Rattle.sk_tokens.specs.Lexemes.{is_blank}
+use Rattle.sk_tokens.specs.Tokens.{line_after, is_line_start}
 use Rattle.sk_lexer.specs.declared.place.Place.{Place}
 use Rattle.sk_lexer.specs.Places.{place_after, place_then}
 

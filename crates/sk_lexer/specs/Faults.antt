@@ -1,8 +1,8 @@
 -- What a lexer's fault says of the tokens of a text.
 use Rattle.std.specs.Prelude.{◌≡◌, List, Result, Err}
-use Rattle.sk_tree.specs.declared.token.Token.{Token}
-use Rattle.sk_tree.specs.Tokens.{TokenFault}
-use Rattle.sk_tree.specs.Tokens as definition
+use Rattle.sk_tokens.specs.declared.token.Token.{Token}
+use Rattle.sk_tokens.specs.Tokens.{TokenFault}
+use Rattle.sk_tokens.specs.Tokens as definition
 use Rattle.sk_lexer.specs.declared.fault.LexFault.{LexFault}
 use Rattle.sk_lexer.specs.declared.fault.LexFault.TheVariants.{NoToken, Wide, LongName, Memory}
 

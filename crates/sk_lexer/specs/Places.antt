@@ -1,7 +1,7 @@
 -- The place that is reached after some bytes.
 use Rattle.std.specs.Prelude.{ℕ, ◌+◌, true, ◌&&◌, ◌==◌, if◌then◌else◌, List, length}
-use Rattle.sk_tree.specs.Lexemes.{is_blank}
-use Rattle.sk_tree.specs.Tokens.{line_after, is_line_start}
+use Rattle.sk_tokens.specs.Lexemes.{is_blank}
+use Rattle.sk_tokens.specs.Tokens.{line_after, is_line_start}
 use Rattle.sk_lexer.specs.declared.place.Place.{Place}
 
 abbrev pub place_after : List ℕ → Place

@@ -1,6 +1,7 @@
 -- What a string is made of, as the code reads it.
 use Rattle.std.specs.Prelude.{ℕ, ◌==◌, if◌then◌else◌, List, Option, Some, None}
-use Rattle.sk_tree.specs.Lexemes.{escape_of, is_from_to}
+use Rattle.sk_tokens.specs.Lexemes.{escape_of}
+use Rattle.sk_names.specs.Bytes.{is_from_to}
 use Rattle.sk_lexer.specs.declared.string.Front.{Front}
 use Rattle.sk_lexer.specs.declared.string.Front.TheVariants.{Quote, Stands, Foreign}
 use Rattle.sk_lexer.specs.declared.string.Closed.{Closed}

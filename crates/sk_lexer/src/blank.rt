@@ -1,5 +1,5 @@
 ghost use Rattle.std.specs.Prelude.{◌≡◌};
-ghost use Rattle.sk_tree.specs.Tokens.{line_rest, comment_rest};
+ghost use Rattle.sk_tokens.specs.Tokens.{line_rest, comment_rest};
 
 /// How many bytes the line has from here on, its line feed not among them.
 pub fn line_len(rest: &[u8]) -> usize

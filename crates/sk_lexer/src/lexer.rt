@@ -1,11 +1,11 @@
 ghost use Rattle.std.specs.Prelude.{◌≡◌, ◌+◌, ◌^◌, ◌<◌, ◌++◌, ℕ, List, length, IfOk, IfErr};
-ghost use Rattle.sk_tree.specs.Tokens.{tokens_of};
+ghost use Rattle.sk_tokens.specs.Tokens.{tokens_of};
 ghost use Rattle.sk_lexer.specs.Faults.{Tells};
 
 use crate::LexFault;
 use crate::piece::{Piece, next_piece};
 use crate::place::Place;
-use sk_tree::Token;
+use sk_tokens::Token;
 use std::alloc::Global;
 
 /// The tokens of a source text with their lines, or the least fault. Takes time and memory in proportion to the text.
@@ -34,6 +34,3 @@ pub fn tokens(alloc: Global, text: &[u8]) -> Result<Vec<Token>, LexFault>
     }
     Ok(tokens)
 }
-
-#[cfg(test)]
-mod tests;

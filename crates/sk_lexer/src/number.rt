@@ -1,13 +1,17 @@
 ghost use Rattle.std.specs.Prelude.{◌≡◌, ◌<◌, ◌^◌, ◌-◌, ◌==◌, ◌&&◌, ◌||◌, if◌then◌else◌, nat_lt, min, true, drop, slice_index};
-ghost use Rattle.sk_tree.specs.Lexemes.{NumberLexeme, is_digit, digits_value};
-ghost use Rattle.sk_tree.specs.Lexemes as lexemes;
-ghost use Rattle.sk_tree.specs.Tokens.{token_at};
-ghost use Rattle.sk_tree.specs.Tokens as definition;
-ghost use Rattle.sk_lexer.specs.Pieces.{piece_of, is_suffix, IsLongestNumeral};
+ghost use Rattle.sk_tokens.specs.Lexemes.{NumberLexeme, digits_value};
+ghost use Rattle.sk_names.specs.Bytes.{is_digit};
+ghost use Rattle.sk_tokens.specs.Lexemes as lexemes;
+ghost use Rattle.sk_tokens.specs.Tokens.{token_at};
+ghost use Rattle.sk_tokens.specs.Tokens as definition;
+ghost use Rattle.sk_lexer.specs.Pieces.{piece_of};
+ghost use Rattle.sk_token_laws.specs.Fronts.{is_suffix, IsLongestNumeral};
+ghost use Rattle.sk_names.specs.Bytes as bytes;
 
 use crate::bytes::{digit_value, digits_len, hex_digits_len, is_hex_digit, is_word_byte};
 use crate::piece::{Flaw, Piece};
-use sk_tree::{Cell, TokenKind, Ty};
+use sk_base::{Cell, Ty};
+use sk_tokens::TokenKind;
 
 /// A number without its suffix: how many bytes it has, and its value, or `u64::MAX` for a greater one.
 struct Numeral {
@@ -52,11 +56,12 @@ fn judged(rest: &[u8], bytes: usize, value: u64, is_suffixed: bool) -> Piece
 
 /// Whether a letter, a digit or `_` stands at this byte.
 fn runs_on(rest: &[u8], at: usize) -> bool
-    ensures { result ≡ lexemes.is_word_byte (slice_index rest.now at) }
+    ensures { result ≡ bytes.is_word_byte (slice_index rest.now at) }
 {
     at < rest.len() && is_word_byte(rest[at])
 }
 
+/// The type of a number: long with a suffix, or where int does not hold it.
 fn type_of(value: u64, is_suffixed: bool) -> Ty
     ensures { result ≡ (if is_suffixed || nat_lt 2147483647 value then Ty.Long else Ty.Int) }
 {

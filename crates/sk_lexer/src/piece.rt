@@ -1,7 +1,7 @@
 ghost use Rattle.std.specs.Prelude.{◌≡◌, ◌<◌, ◌==◌, ◌&&◌, List, Result, length, codes, IfOk};
 ghost use Rattle.std.specs.List.{starts_with};
-ghost use Rattle.sk_tree.specs.Tokens.{TokenFault, token_at, piece_at};
-ghost use Rattle.sk_tree.specs.declared.token.Token.{Token};
+ghost use Rattle.sk_tokens.specs.Tokens.{TokenFault, token_at, piece_at};
+ghost use Rattle.sk_tokens.specs.declared.token.Token.{Token};
 ghost use Rattle.sk_lexer.specs.Pieces.{piece_of, fault_of};
 ghost use Rattle.sk_lexer.specs.Faults.{Tells};
 
@@ -12,7 +12,7 @@ use crate::number::number;
 use crate::sign::sign;
 use crate::string::string;
 use crate::word::word;
-use sk_tree::TokenKind;
+use sk_tokens::TokenKind;
 use std::alloc::{AllocError, Global};
 
 /// What stands at the front of a rest of the text, with its number of bytes.

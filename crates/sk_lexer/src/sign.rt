@@ -1,10 +1,12 @@
 ghost use Rattle.std.specs.Prelude.{◌≡◌, ◌≢◌, [], ◌∷◌, false, slice_index, length, ◌<◌};
-ghost use Rattle.sk_tree.specs.Lexemes.{is_letter, is_digit, sign_of};
-ghost use Rattle.sk_tree.specs.Tokens.{token_at};
-ghost use Rattle.sk_lexer.specs.Pieces.{piece_of, front_sign};
+ghost use Rattle.sk_names.specs.Bytes.{is_letter, is_digit};
+ghost use Rattle.sk_tokens.specs.Lexemes.{sign_of};
+ghost use Rattle.sk_tokens.specs.Tokens.{token_at};
+ghost use Rattle.sk_lexer.specs.Pieces.{piece_of};
+ghost use Rattle.sk_token_laws.specs.Fronts.{front_sign};
 
 use crate::piece::{Flaw, Piece};
-use sk_tree::{Sign, TokenKind};
+use sk_tokens::{Sign, TokenKind};
 
 /// The longest sign at the front of the rest, whose first byte begins no word, number or string.
 pub fn sign(rest: &[u8]) -> Piece
@@ -26,6 +28,7 @@ pub fn sign(rest: &[u8]) -> Piece
     }
 }
 
+/// The sign of the first three bytes.
 fn first_three(rest: &[u8]) -> Option<Sign>
     ensures { result ≡ front_sign 3 rest.now }
 {
@@ -36,6 +39,7 @@ fn first_three(rest: &[u8]) -> Option<Sign>
     }
 }
 
+/// The sign of the first two bytes.
 fn first_two(rest: &[u8]) -> Option<Sign>
     ensures { result ≡ front_sign 2 rest.now }
 {
@@ -46,7 +50,8 @@ fn first_two(rest: &[u8]) -> Option<Sign>
     }
 }
 
-#[tactic(auto, unfolding(sk_tree::specs::Lexemes::sign_of, sk_tree::specs::Lexemes::signs))]
+/// The sign of three bytes.
+#[tactic(auto, unfolding(sk_tokens::specs::Lexemes::sign_of, sk_tokens::specs::Lexemes::signs))]
 fn of_three(first: u8, second: u8, third: u8) -> Option<Sign>
     ensures { result ≡ sign_of (first ∷ second ∷ third ∷ []) }
 {
@@ -60,6 +65,7 @@ fn of_three(first: u8, second: u8, third: u8) -> Option<Sign>
     }
 }
 
+/// The sign of two bytes.
 fn of_two(first: u8, second: u8) -> Option<Sign>
     ensures { result ≡ sign_of (first ∷ second ∷ []) }
 {
@@ -73,7 +79,7 @@ fn of_two(first: u8, second: u8) -> Option<Sign>
 }
 
 /// The sign of a byte and `=`.
-#[tactic(auto, unfolding(sk_tree::specs::Lexemes::sign_of, sk_tree::specs::Lexemes::signs))]
+#[tactic(auto, unfolding(sk_tokens::specs::Lexemes::sign_of, sk_tokens::specs::Lexemes::signs))]
 fn before_equals(first: u8) -> Option<Sign>
     ensures { result ≡ sign_of (first ∷ 61 ∷ []) }
 {
@@ -95,7 +101,7 @@ fn before_equals(first: u8) -> Option<Sign>
 }
 
 /// The sign of a byte twice.
-#[tactic(auto, unfolding(sk_tree::specs::Lexemes::sign_of, sk_tree::specs::Lexemes::signs))]
+#[tactic(auto, unfolding(sk_tokens::specs::Lexemes::sign_of, sk_tokens::specs::Lexemes::signs))]
 fn doubled(byte: u8) -> Option<Sign>
     ensures { result ≡ sign_of (byte ∷ byte ∷ []) }
 {
@@ -112,7 +118,8 @@ fn doubled(byte: u8) -> Option<Sign>
     }
 }
 
-#[tactic(auto, unfolding(sk_tree::specs::Lexemes::sign_of, sk_tree::specs::Lexemes::signs))]
+/// The sign of one byte.
+#[tactic(auto, unfolding(sk_tokens::specs::Lexemes::sign_of, sk_tokens::specs::Lexemes::signs))]
 fn of_one(byte: u8) -> Option<Sign>
     ensures { result ≡ sign_of (byte ∷ []) }
 {

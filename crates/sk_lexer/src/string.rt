@@ -1,12 +1,13 @@
 ghost use Rattle.std.specs.Prelude.{◌≡◌, ◌<◌, ◌≤◌, ℕ, length, take, IfOk, IfSome, slice_index};
-ghost use Rattle.sk_tree.specs.Lexemes.{string_rest_of};
-ghost use Rattle.sk_tree.specs.Tokens.{token_at};
+ghost use Rattle.sk_tokens.specs.Lexemes.{string_rest_of};
+ghost use Rattle.sk_tokens.specs.Tokens.{token_at};
 ghost use Rattle.sk_lexer.specs.Pieces.{piece_of};
 ghost use Rattle.sk_lexer.specs.Strings.{front_at, pair_at, text_after};
 
 use crate::piece::{Flaw, Piece};
 use crate::word::LONGEST;
-use sk_tree::{Text, TokenKind};
+use sk_names::Text;
+use sk_tokens::TokenKind;
 use std::alloc::{AllocError, Global};
 
 /// What the rest of a string begins with.
@@ -68,6 +69,7 @@ fn up_to_quote(alloc: Global, rest: &[u8]) -> Result<Option<Closed>, AllocError>
     Ok(None)
 }
 
+/// What the rest of a string begins with.
 fn front_of(rest: &[u8]) -> Front
     requires { 0 < length rest.now }
     ensures { result ≡ front_at (slice_index rest.now 0) (slice_index rest.now 1) }

@@ -1,11 +1,12 @@
 ghost use Rattle.std.specs.Prelude.{◌≡◌, IfOk, true, slice_index};
-ghost use Rattle.sk_tree.specs.Lexemes.{is_letter};
-ghost use Rattle.sk_tree.specs.Tokens.{token_at};
+ghost use Rattle.sk_names.specs.Bytes.{is_letter};
+ghost use Rattle.sk_tokens.specs.Tokens.{token_at};
 ghost use Rattle.sk_lexer.specs.Pieces.{piece_of};
 
 use crate::bytes::word_len;
 use crate::piece::{Flaw, Piece};
-use sk_tree::{Name, TokenKind};
+use sk_names::Name;
+use sk_tokens::TokenKind;
 use std::alloc::{AllocError, Global};
 
 /// The most bytes that a name may have, or that a string may stand for.

@@ -12,28 +12,29 @@ use Rattle.sk_tree.specs.declared.tree.Expr.TheVariants.{Unary, Binary}
 use Rattle.sk_tree.specs.declared.tree.Statement.{Statement}
 use Rattle.sk_tree.specs.declared.tree.Un.TheVariants.{Neg}
 use Rattle.sk_tree.specs.declared.tree.What.TheVariants as what
-use Rattle.sk_codegen.specs.Plain.{Counts, Names, IsPlain, IsPlainFunction, is_among, fits_type, is_plain_expression, block_is_plain, judged_of, returns_of}
-use Rattle.sk_machine_rows.proofs.PlainParts.{number-is-plain, name-is-plain, unary-is-plain, binary-is-plain, both-is-plain, choose-is-plain, call-is-plain, declaration-is-plain, assignment-is-plain, return-is-plain, loop-is-plain, then-is-plain, judged-Declare, judged-Assign, returns-Declare, returns-For, returns-Return}
-use Rattle.sk_isa.specs.Plans.{functions_object}
+use Rattle.sk_plain.specs.Plain.{Counts, ScalarNames, IsPlain, IsPlainFunction, is_among, fits_type, is_plain_expression, block_is_plain, plainness_of, plainness_step, returns_of, returns_step}
+use Rattle.sk_machine_rows.proofs.PlainParts.{number-is-plain, name-is-plain, unary-is-plain, binary-is-plain, both-is-plain, choose-is-plain, call-is-plain, declaration-is-plain, assignment-is-plain, return-is-plain, loop-is-plain, then-is-plain}
+use Rattle.sk_plain.specs.PlainLaws.{walks-Declare, walks-Assign, walks-For, walks-Return}
+use Rattle.sk_scheme.specs.Plans.{functions_object}
 use Rattle.sk_isa.specs.Soundness.{IsSoundPlan}
 use Rattle.sk_machine_rows.specs.Programs.{rows_program, int, long, named, stated, function, int_param, grown, quotient, guarded, distance, counted, counting_loop, counting_body, dividing, widened, widening_body, truncating_body}
 
 -- a body that ends with the return of a plain expression
-returned-plain : (expr : Expr) (counts : Counts) (names : Names) → is_plain_expression expr counts names ≡ true
-    → block_is_plain (map judged_of (stated (what.Return expr) ∷ [])) counts names ≡ true
+returned-plain : (expr : Expr) (counts : Counts) (names : ScalarNames) → is_plain_expression expr counts names ≡ true
+    → block_is_plain (map plainness_of (stated (what.Return expr) ∷ [])) counts names ≡ true
 returned-plain expr counts names plain = then-is-plain counts names (stated (what.Return expr)) [] names (return-is-plain counts names 1 expr plain) refl
 
 returned-returns : (expr : Expr) → list_any returns_of (stated (what.Return expr) ∷ []) ≡ true
-returned-returns expr = rw (returns-Return 1 expr) refl
+returned-returns expr = rw (walks-Return returns_step 1 expr) refl
 
 module _ (counts : Counts) where
   -- a statement that counts one further
-  grown-plain : (name : List ℕ) (names : Names) → is_among name names ≡ true → (judged_of (grown name)).behind counts names ≡ Some names
+  grown-plain : (name : List ℕ) (names : ScalarNames) → is_among name names ≡ true → (plainness_of (grown name)).behind counts names ≡ Some names
   grown-plain name names among =
       assignment-is-plain counts names 1 name (Binary Add (named name) (int 1)) among
       (binary-is-plain counts names (named name) (int 1) (name-is-plain counts names name among) (number-is-plain counts names Int (pos 1) refl) Add)
 
-  module _ (names : Names) where
+  module _ (names : ScalarNames) where
     name-test : (name : List ℕ) → is_among name names ≡ true → is_plain_expression (named name) counts names ≡ true
     name-test name among = name-is-plain counts names name among
 
@@ -48,48 +49,48 @@ module _ (counts : Counts) where
     long-plain : (number : ℕ) → fits_type Long (pos number) ≡ true → is_plain_expression (long number) counts names ≡ true
     long-plain number fits = number-is-plain counts names Long (pos number) fits
 
-  loop-plain : (judged_of counting_loop).behind counts (codes "s" ∷ codes "a" ∷ []) ≡ Some (codes "s" ∷ codes "a" ∷ [])
+  loop-plain : (plainness_of counting_loop).behind counts (codes "s" ∷ codes "a" ∷ []) ≡ Some (codes "s" ∷ codes "a" ∷ [])
   loop-plain =
-      let outer : Names = codes "s" ∷ codes "a" ∷ [] in
-      let inner : Names = codes "i" ∷ codes "s" ∷ codes "a" ∷ [] in
+      let outer : ScalarNames = codes "s" ∷ codes "a" ∷ [] in
+      let inner : ScalarNames = codes "i" ∷ codes "s" ∷ codes "a" ∷ [] in
       let first : Statement = stated (what.Declare Int (codes "i") (int 0)) in
       loop-is-plain counts outer 1 first (Binary Lt (named (codes "i")) (named (codes "a"))) (grown (codes "i")) (grown (codes "s") ∷ []) inner
-      (rw (judged-Declare 1 Int (codes "i") (int 0)) refl)
-      (rw (judged-Assign 1 (codes "i") (Binary Add (named (codes "i")) (int 1))) refl)
+      (rw (walks-Declare plainness_step 1 Int (codes "i") (int 0)) refl)
+      (rw (walks-Assign plainness_step 1 (codes "i") (Binary Add (named (codes "i")) (int 1))) refl)
       (declaration-is-plain counts outer 1 Int (codes "i") (int 0) (int-plain outer 0 refl))
       (with-number inner (codes "i") (named (codes "a")) refl (name-test inner (codes "a") refl) Lt)
       (then-is-plain counts inner (grown (codes "s")) [] inner (grown-plain (codes "s") inner refl) refl)
       (grown-plain (codes "i") inner refl)
 
-  counting-plain : block_is_plain (map judged_of counting_body) counts (codes "a" ∷ []) ≡ true
+  counting-plain : block_is_plain (map plainness_of counting_body) counts (codes "a" ∷ []) ≡ true
   counting-plain =
-      let outer : Names = codes "a" ∷ [] in
-      let inner : Names = codes "s" ∷ codes "a" ∷ [] in
+      let outer : ScalarNames = codes "a" ∷ [] in
+      let inner : ScalarNames = codes "s" ∷ codes "a" ∷ [] in
       then-is-plain counts outer (stated (what.Declare Int (codes "s") (int 0))) (counting_loop ∷ stated (what.Return (named (codes "s"))) ∷ []) inner
       (declaration-is-plain counts outer 1 Int (codes "s") (int 0) (int-plain outer 0 refl))
       (then-is-plain counts inner counting_loop (stated (what.Return (named (codes "s"))) ∷ []) inner loop-plain
       (returned-plain (named (codes "s")) counts inner (name-test inner (codes "s") refl)))
 
   -- behind `long x = a;`
-  widened-plain : (rest : List Statement) → block_is_plain (map judged_of rest) counts (codes "x" ∷ codes "a" ∷ []) ≡ true
-      → block_is_plain (map judged_of (widened ∷ rest)) counts (codes "a" ∷ []) ≡ true
+  widened-plain : (rest : List Statement) → block_is_plain (map plainness_of rest) counts (codes "x" ∷ codes "a" ∷ []) ≡ true
+      → block_is_plain (map plainness_of (widened ∷ rest)) counts (codes "a" ∷ []) ≡ true
   widened-plain rest goes =
-      let outer : Names = codes "a" ∷ [] in
+      let outer : ScalarNames = codes "a" ∷ [] in
       then-is-plain counts outer widened rest (codes "x" ∷ codes "a" ∷ [])
       (declaration-is-plain counts outer 1 Long (codes "x") (named (codes "a")) (name-test outer (codes "a") refl)) goes
 
-  widening-plain : block_is_plain (map judged_of widening_body) counts (codes "a" ∷ []) ≡ true
+  widening-plain : block_is_plain (map plainness_of widening_body) counts (codes "a" ∷ []) ≡ true
   widening-plain =
-      let inner : Names = codes "x" ∷ codes "a" ∷ [] in
+      let inner : ScalarNames = codes "x" ∷ codes "a" ∷ [] in
       widened-plain (stated (what.Return (Binary Mul (named (codes "x")) (long 4294967296))) ∷ [])
       (returned-plain (Binary Mul (named (codes "x")) (long 4294967296)) counts inner
       (with-number inner (codes "x") (long 4294967296) refl (long-plain inner 4294967296 refl) Mul))
 
-  truncating-plain : block_is_plain (map judged_of truncating_body) counts (codes "a" ∷ []) ≡ true
+  truncating-plain : block_is_plain (map plainness_of truncating_body) counts (codes "a" ∷ []) ≡ true
   truncating-plain =
-      let inner : Names = codes "x" ∷ codes "a" ∷ [] in
+      let inner : ScalarNames = codes "x" ∷ codes "a" ∷ [] in
       let sum : Expr = Binary Add (named (codes "x")) (long 2147483647) in
-      let innermost : Names = codes "y" ∷ codes "x" ∷ codes "a" ∷ [] in
+      let innermost : ScalarNames = codes "y" ∷ codes "x" ∷ codes "a" ∷ [] in
       widened-plain (stated (what.Declare Int (codes "y") sum) ∷ stated (what.Return (named (codes "y"))) ∷ [])
       (then-is-plain counts inner (stated (what.Declare Int (codes "y") sum)) (stated (what.Return (named (codes "y"))) ∷ []) innermost
       (declaration-is-plain counts inner 1 Int (codes "y") sum (with-number inner (codes "x") (long 2147483647) refl (long-plain inner 2147483647 refl) Add))
@@ -97,10 +98,10 @@ module _ (counts : Counts) where
 
   quotient-plain : is_plain_expression quotient counts (codes "b" ∷ codes "a" ∷ []) ≡ true
   quotient-plain =
-      let names : Names = codes "b" ∷ codes "a" ∷ [] in
+      let names : ScalarNames = codes "b" ∷ codes "a" ∷ [] in
       with-number names (codes "a") (named (codes "b")) refl (name-test names (codes "b") refl) Div
 
-  module _ (names : Names) (here : is_among (codes "a") names ≡ true) where
+  module _ (names : ScalarNames) (here : is_among (codes "a") names ≡ true) where
     guarded-plain : is_plain_expression guarded counts names ≡ true
     guarded-plain =
         let inverse : Expr = Binary Div (int 10) (named (codes "a")) in
@@ -122,7 +123,7 @@ before_calling = (codes "d", 2) ∷ (codes "f", 1) ∷ []
 
 calling-plain : is_plain_expression (Binary Add counted counted) before_calling (codes "a" ∷ []) ≡ true
 calling-plain =
-    let names : Names = codes "a" ∷ [] in
+    let names : ScalarNames = codes "a" ∷ [] in
     let call : is_plain_expression counted before_calling names ≡ true =
     call-is-plain before_calling names (codes "f") (named (codes "a")) refl refl (name-test before_calling names (codes "a") refl) in
     binary-is-plain before_calling names counted counted call call Add
@@ -130,26 +131,26 @@ calling-plain =
 counting-returns : list_any returns_of counting_body ≡ true
 counting-returns =
     rw (
-      returns-Declare 1 Int (codes "s") (int 0),
-      returns-For 1 (stated (what.Declare Int (codes "i") (int 0))) (Binary Lt (named (codes "i")) (named (codes "a"))) (grown (codes "i")) (grown (codes "s") ∷ []),
-      returns-Return 1 (named (codes "s")),
+      walks-Declare returns_step 1 Int (codes "s") (int 0),
+      walks-For returns_step 1 (stated (what.Declare Int (codes "i") (int 0))) (Binary Lt (named (codes "i")) (named (codes "a"))) (grown (codes "i")) (grown (codes "s") ∷ []),
+      walks-Return returns_step 1 (named (codes "s")),
     ) refl
 
 widening-returns : list_any returns_of widening_body ≡ true
 widening-returns =
-    rw (returns-Declare 1 Long (codes "x") (named (codes "a")), returns-Return 1 (Binary Mul (named (codes "x")) (long 4294967296))) refl
+    rw (walks-Declare returns_step 1 Long (codes "x") (named (codes "a")), walks-Return returns_step 1 (Binary Mul (named (codes "x")) (long 4294967296))) refl
 
 truncating-returns : list_any returns_of truncating_body ≡ true
 truncating-returns =
     rw (
-      returns-Declare 1 Long (codes "x") (named (codes "a")),
-      returns-Declare 1 Int (codes "y") (Binary Add (named (codes "x")) (long 2147483647)),
-      returns-Return 1 (named (codes "y")),
+      walks-Declare returns_step 1 Long (codes "x") (named (codes "a")),
+      walks-Declare returns_step 1 Int (codes "y") (Binary Add (named (codes "x")) (long 2147483647)),
+      walks-Return returns_step 1 (named (codes "y")),
     ) refl
 
 module _ (counts : Counts) where
   -- a function of one int
-  plain-of-one : (ret : Ty) (name : List ℕ) (body : List Statement) → block_is_plain (map judged_of body) counts (codes "a" ∷ []) ≡ true
+  plain-of-one : (ret : Ty) (name : List ℕ) (body : List Statement) → block_is_plain (map plainness_of body) counts (codes "a" ∷ []) ≡ true
       → list_any returns_of body ≡ true → IsPlainFunction counts (function ret name (int_param (codes "a") ∷ []) body)
   plain-of-one ret name body plain returns = record { scalars = refl; few = omega arith; body = plain; returns = returns }
 

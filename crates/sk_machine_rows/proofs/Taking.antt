@@ -4,10 +4,10 @@ use Rattle.std.proofs.lemmas.Int.{to_z-of_z}
 use Rattle.std.specs.Prelude.{All, IfOk}
 use Rattle.sk_base.specs.Arithmetic.{InRange}
 use Rattle.sk_base.specs.declared.number.Ty.TheVariants.{Int}
-use Rattle.sk_codegen.specs.Plain.{IsPlain}
+use Rattle.sk_plain.specs.Plain.{IsPlain}
 use Rattle.sk_isa.specs.Instances.{function_meaning}
 use Rattle.sk_isa.specs.Kernels.{Suits}
-use Rattle.sk_isa.specs.Plans.{functions_object}
+use Rattle.sk_scheme.specs.Plans.{functions_object}
 use Rattle.sk_isa.specs.Soundness.{IsSound, TakesScalars}
 use Rattle.sk_isa.specs.Vectors.{vector_source}
 use Rattle.sk_isa.specs.declared.object.Object.{Object}

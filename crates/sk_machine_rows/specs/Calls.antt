@@ -3,7 +3,7 @@ use Rattle.std.specs.Prelude.{◌≡◌, ℕ, ◌<◌, false, replicate}
 use Rattle.sk_base.specs.declared.number.Ty.TheVariants.{Int}
 use Rattle.sk_tree.specs.declared.tree.ParamKind.TheVariants.{Scalar}
 use Rattle.sk_isa.specs.Instances.{signature_at}
-use Rattle.sk_isa.specs.Plans.{functions_object}
+use Rattle.sk_scheme.specs.Plans.{functions_object}
 use Rattle.sk_isa.specs.Soundness.{IsSound, TakesScalars}
 use Rattle.sk_isa.specs.declared.object.Object.{Object}
 use Rattle.sk_vm.specs.Frames.{Framed, HasRoom}

@@ -24,6 +24,7 @@ pub enum Called {
 }
 
 impl Called {
+    /// Its number in the compiled program.
     fn number(self) -> u32
         ensures { TakesInts 1 result }
     {

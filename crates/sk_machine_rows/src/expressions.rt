@@ -3,22 +3,27 @@ ghost use Rattle.std.specs.Prelude.{◌≡◌, ◌<◌, ◌^◌, IfOk};
 ghost use Rattle.sk_tree.specs.declared.tree.Expr.TheVariants as expr;
 ghost use Rattle.sk_machine_rows.specs.Programs.{named, int, long, quotient, counted, guarded, distance};
 
-use sk_tree::{Expr, Name, Op, Ty, Un};
+use sk_base::{Op, Ty};
+use sk_names::Name;
+use sk_tree::{Expr, Un};
 use sqlite_items::{Boxed, Items};
 use std::alloc::{AllocError, Global};
 
+/// A name.
 pub fn named(alloc: Global, name: &[u8]) -> Result<Expr, AllocError>
     ensures { IfOk result (λ made. made ≡ named name.now) }
 {
     Ok(Expr::Name(Name::from_slice(alloc, name)?))
 }
 
+/// A literal int.
 pub fn int(number: u32) -> Expr
     ensures { result ≡ int number }
 {
     Expr::Number(Ty::Int, i64::from(number))
 }
 
+/// A literal long.
 pub fn long(number: u64) -> Expr
     requires { number < 2 ^ 63 }
     ensures { result ≡ long number }
@@ -26,6 +31,7 @@ pub fn long(number: u64) -> Expr
     Expr::Number(Ty::Long, number as i64)
 }
 
+/// An operator with its operands.
 pub fn binary(alloc: Global, op: Op, left: Expr, right: Expr) -> Result<Expr, AllocError>
     ensures { IfOk result (λ made. made ≡ expr.Binary op left right) }
 {

@@ -4,10 +4,13 @@ ghost use Rattle.sk_tree.specs.declared.tree.What.TheVariants as what;
 ghost use Rattle.sk_machine_rows.specs.Programs.{stated, int_param, function, grown, counting_loop};
 
 use crate::expressions::{binary, int, named};
-use sk_tree::{Expr, Function, Name, Op, Param, ParamKind, Statement, Ty, What};
+use sk_base::{Op, Ty};
+use sk_names::Name;
+use sk_tree::{Expr, Function, Param, ParamKind, Statement, What};
 use sqlite_items::{Boxed, Items};
 use std::alloc::{AllocError, Global};
 
+/// A statement on line 1.
 pub fn stated(what: What) -> Statement
     ensures { result ≡ stated what }
 {
@@ -46,6 +49,7 @@ pub fn push_declaration(
     body.push(declaration(alloc, ty, name, value)?)
 }
 
+/// One more statement, which returns a value.
 pub fn push_return(value: Expr, body: &mut Items<Statement>) -> Result<(), AllocError>
     ensures { OnOk result (body.new ≡ body.old ++ stated (what.Return value) ∷ []) }
 {

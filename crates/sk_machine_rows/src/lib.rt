@@ -6,6 +6,7 @@
 //! - `rows`: arguments, with the value or the trap that is wanted.
 //! - `sources`: from a source to the code of its functions.
 //! - `listed_expressions`, `listed_statements`: functions, with the lines that are wanted.
+//! - `listed_words`: code that no source gives yet, with its lines.
 //! - `objects`: what a compiled program has beside code.
 #![tactic(auto)]
 
@@ -19,6 +20,8 @@ mod functions;
 mod listed_expressions;
 #[cfg(test)]
 mod listed_statements;
+#[cfg(test)]
+mod listed_words;
 #[cfg(test)]
 mod objects;
 #[cfg(test)]

@@ -11,6 +11,7 @@ int tested(int a, int b) { return 1; }
 int main() { auto s = skepu::Reduce(add); }
 ";
 
+/// The compiled form of the source.
 fn object(rt: &impl Abort, alloc: Global) -> Result<Object, Fail> {
     Ok(object_of(rt, alloc, SOURCE).ok_or("no object")?)
 }

@@ -4,7 +4,8 @@ ghost use Rattle.sk_machine_rows.specs.Programs.{rows_program, counting, countin
 
 use crate::expressions::{binary, counted, distance, guarded, int, long, named, quotient};
 use crate::functions::{int_param, push_declaration, push_function, push_loop, push_return};
-use sk_tree::{Function, Op, Program, Statement, Ty};
+use sk_base::{Op, Ty};
+use sk_tree::{Function, Program, Statement};
 use sqlite_items::Items;
 use std::alloc::{AllocError, Global};
 

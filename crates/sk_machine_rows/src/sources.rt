@@ -1,7 +1,8 @@
 //! From a source to the code of its functions.
 use sk_codegen::plain;
-use sk_isa::{Object, listing};
+use sk_isa::Object;
 use sk_lexer::tokens;
+use sk_listing::listing;
 use sk_parser::parse;
 use std::alloc::{AllocError, Global};
 use std::process::Abort;

@@ -23,6 +23,7 @@ impl Model for FaultLog {
 impl FaultLog {
     ghost use Rattle.sk_outside.specs.Faults.{no_faults, one_more};
 
+    /// No failed call so far.
     pub fn new() -> Self
         ensures { result ≡ no_faults }
     {

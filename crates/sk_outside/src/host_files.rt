@@ -35,6 +35,7 @@ impl<'a, R> Model for HostFiles<'a, R> {
 }
 
 impl<'a, R: FileSystem> HostFiles<'a, R> {
+    /// The files that this runtime reaches.
     pub fn new(rt: &'a R) -> Self
         ensures { result ≡ record { reads = no_faults; writes = no_faults } }
     {
@@ -133,6 +134,7 @@ fn read_piece<F: Read>(
     Ok(taken)
 }
 
+/// So many bytes, all 0.
 fn zeros(alloc: Global, len: usize) -> Result<Vec<u8>, AllocError>
     ensures { IfOk result (λ bytes. vec_len bytes ≡ len) }
 {

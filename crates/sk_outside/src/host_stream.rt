@@ -34,6 +34,7 @@ impl<W> Model for HostStream<W> {
 }
 
 impl<W: Write> HostStream<W> {
+    /// A sink over this writer, with no failed put so far.
     pub fn new(writer: W) -> Self
         ensures { result ≡ record { taken = None; faults = 0 } }
     {

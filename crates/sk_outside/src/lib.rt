@@ -26,6 +26,3 @@ pub use host_stream::{HostErr, HostOut};
 pub use memory_files::{MemFiles, names_differ};
 pub use memory_sink::MemSink;
 pub use sink::Sink;
-
-#[cfg(test)]
-mod tests;

@@ -39,6 +39,7 @@ impl Seeded {
 }
 
 impl Chooser for Seeded {
+    /// One step of the generator; the upper 31 bits of the new state, modulo `count`.
     fn choose(&mut self, count: u32) -> u32
         requires { 0 < count }
         ensures below { result < count }
@@ -78,6 +79,7 @@ impl Listed {
 }
 
 impl Chooser for Listed {
+    /// The next number of the list modulo `count`, or 0 after its end.
     fn choose(&mut self, count: u32) -> u32
         requires { 0 < count }
         ensures below { result < count }

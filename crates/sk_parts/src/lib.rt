@@ -8,8 +8,6 @@
 mod choosers;
 mod cuts;
 mod edges;
-#[cfg(test)]
-mod tests;
 
 pub use choosers::{Chooser, Listed, Seeded};
 pub use cuts::{cut, cut_covers};

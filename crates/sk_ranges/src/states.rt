@@ -127,6 +127,3 @@ impl States {
         pieces::missing(&self.pieces, range)
     }
 }
-
-#[cfg(test)]
-mod tests;

@@ -21,6 +21,7 @@ fn with_replaced(
     prints_42().replace(alloc, old, new)
 }
 
+/// Each program, with its piece replaced, runs to its end and prints the line.
 fn expect_accepted(
     rt: &impl Abort,
     alloc: Global,
@@ -33,6 +34,7 @@ fn expect_accepted(
     Ok(())
 }
 
+/// Each program, with its piece replaced, is refused.
 fn expect_refused(rt: &impl Abort, alloc: Global, rows: &[Refused<'_>]) -> Result<(), AllocError> {
     for (old, new) in rows {
         let source = with_replaced(rt, alloc, old, new)?;
@@ -41,6 +43,7 @@ fn expect_refused(rt: &impl Abort, alloc: Global, rows: &[Refused<'_>]) -> Resul
     Ok(())
 }
 
+/// A name of so many bytes.
 fn long_name(alloc: Global, len: usize) -> Result<String, AllocError> {
     "n".repeat(alloc, len)
 }
@@ -52,6 +55,7 @@ fn numbers_that_fit(rt: HostRuntime) -> Result<(), Fail> {
         ("* 2", "+ 2", "23\n"),
         ("* 2", "- 30", "-9\n"),
         ("* 2", "* 2147483647", "2147483627\n"),
+        ("* 2", "- 2147483647", "-2147483626\n"),
         (", 21)", ", 2147483647)", "-2\n"),
         (", 21)", ", 0)", "0\n"),
         ("data(2)", "data(0)", "42\n"),
@@ -67,10 +71,14 @@ fn names_and_blanks_that_are_free(rt: HostRuntime) -> Result<(), Fail> {
         ("value", "doubler", "42\n"),
         ("value", "data", "42\n"),
         ("twice", "_t9", "42\n"),
+        ("twice", "Map", "42\n"),
         (" ", "\t", "42\n"),
+        (" ", "\t\r\n", "42\n"),
         ("\n", "\r\n", "42\n"),
         (" * ", "*", "42\n"),
+        ("; ", ";", "42\n"),
         ("0; }", "0; }\n\n", "42\n"),
+        ("0; }\n", "0; }", "42\n"),
         ("::", " :: ", "42\n"),
     ];
     expect_accepted(&rt, rt.alloc(), &rows)?;
@@ -81,10 +89,13 @@ fn names_and_blanks_that_are_free(rt: HostRuntime) -> Result<(), Fail> {
 fn numbers_that_do_not_fit(rt: HostRuntime) -> Result<(), Fail> {
     let rows = [
         ("data(2)", "data(3)"),
+        ("(3, ", "(2, "),
         ("(3, ", "(0, "),
         ("(3, ", "(16777217, "),
         ("(3, ", "(03, "),
+        ("(3, ", "(0x1000000, "),
         (", 21)", ", 021)"),
+        (", 21)", ", 00)"),
         (", 21)", ", 0x15)"),
         (", 21)", ", 21L)"),
         (", 21)", ", 2147483648)"),
@@ -92,6 +103,9 @@ fn numbers_that_do_not_fit(rt: HostRuntime) -> Result<(), Fail> {
         ("* 2", "* 2147483648"),
         ("* 2", "/ 2"),
         ("* 2", "* (2)"),
+        ("* 2", "* 2L"),
+        ("* 2", "* 0x2"),
+        ("* 2", "* 02"),
         ("return 0", "return 1"),
         ("return 0", "return 00"),
     ];
@@ -103,13 +117,18 @@ fn numbers_that_do_not_fit(rt: HostRuntime) -> Result<(), Fail> {
 fn names_that_are_taken(rt: HostRuntime) -> Result<(), Fail> {
     let rows = [
         ("value", "twice"),
+        ("value", "main"),
         ("doubler", "data"),
+        ("data", "doubler"),
         ("doubler", "twice"),
         ("data", "twice"),
         ("data", "main"),
         ("twice", "main"),
         ("value", "long"),
         ("value", "std"),
+        ("data", "std"),
+        ("doubler", "long"),
+        ("twice", "skepu_input"),
         ("doubler", "skepu_input"),
     ];
     expect_refused(&rt, rt.alloc(), &rows)?;
@@ -122,10 +141,15 @@ fn other_tokens(rt: HostRuntime) -> Result<(), Fail> {
         ("int main", "intmain"),
         ("return value", "returnvalue"),
         ("auto doubler", "autodoubler"),
+        ("return 0", "return0"),
+        ("value * 2", "2 * value"),
+        ("value * 2", "(value) * 2"),
+        ("value * 2", "other * 2"),
         ("return 0", "/* c */ return 0"),
         ("return 0", "// c\nreturn 0"),
         ("int twice(", "#include <skepu>\nint twice("),
         ("0; }", "0; };"),
+        ("0; }", "0;"),
         ("<int>", "<long>"),
         ("Map", "Reduce"),
         ("endl", "flush"),

@@ -94,6 +94,7 @@ impl Ran {
         Ok(Ran { status, out, err })
     }
 
+    /// The run left behind what is wanted. `row` is shown where it did not.
     pub fn expect(&self, rt: &impl Abort, wanted: Wanted<'_>, row: &str) {
         assert_eq!(rt; self.status, wanted.status, "the status of {row}");
         assert!(rt;

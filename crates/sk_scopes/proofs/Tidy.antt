@@ -2,9 +2,9 @@
 use Rattle.std.proofs.Common.{◌≡◌, ◌<◌, ◌-◌, suc, length, drop, arith, ◌++◌, reverse, ℕ, Bool, true, false, List, [], ◌∷◌, Option, Some, if◌then◌else◌, IsSome, refl, sym, ◌∙◌, ap, subst}
 use Rattle.std.proofs.lemmas.List.{reverse-append}
 use Rattle.std.specs.Cmp.Lexicographic.{same_text}
-use Rattle.sk_tree.specs.Bindings.{bound_to}
-use Rattle.sk_tree.specs.BindingsLaws.{same_bytes-same}
-use Rattle.sk_tree.specs.Lexemes.{same_bytes}
+use Rattle.sk_names.specs.Bindings.{bound_to}
+use Rattle.sk_names.specs.BytesLaws.{same_bytes-same}
+use Rattle.sk_names.specs.Bytes.{same_bytes}
 use Rattle.sk_scopes.specs.Scopes.{IsTidy, Rebinds, bindings_of}
 use Rattle.sk_scopes.specs.declared.scopes.Binding.{Binding}
 

@@ -1,7 +1,7 @@
 -- The names in scope as they are kept: the latest binding of each name, and behind each declaration what it shadowed.
 use Rattle.std.specs.Prelude.{◌≡◌, ℕ, List, [], ◌∷◌, map, Option, Some, None, if◌then◌else◌}
 use Rattle.std.specs.Borrow.{Bor}
-use Rattle.sk_tree.specs.Lexemes.{same_bytes}
+use Rattle.sk_names.specs.Bytes.{same_bytes}
 use Rattle.sk_scopes.specs.declared.scopes.Binding.{Binding}
 use Rattle.indexmap.specs.IndexMap.{IndexMap, get_by}
 

@@ -1,12 +1,12 @@
 ghost use Rattle.std.specs.Prelude.{◌≡◌, ℕ, List, [], ◌∷◌, ◌-◌, length, drop, reverse, OnOk, OnErr, Option, Some, IsSome};
-ghost use Rattle.sk_tree.specs.Bindings.{bound_to};
+ghost use Rattle.sk_names.specs.Bindings.{bound_to};
 ghost use Rattle.sk_scopes.specs.Scopes.{IsTidy, Rebinds, bindings_of, found_in};
 
 use indexmap::IndexMap;
 use std::alloc::{AllocError, Global};
 use std::marker::Model;
 
-// A declaration: its name, what the name stands for, and what it stood for before.
+/// A declaration: its name, what the name stands for, and what it stood for before.
 #[derive(Clone, Copy)]
 struct Binding<'a, T: Copy> {
     name: &'a [u8],
@@ -14,7 +14,7 @@ struct Binding<'a, T: Copy> {
     shadowed: Option<T>,
 }
 
-// A name that is bound is bound to something else, which takes no memory.
+/// A name that is bound is bound to something else, which takes no memory.
 fn rebind<'a, T: Copy>(latest: &mut IndexMap<&'a [u8], T>, name: &'a [u8], known: T)
     ensures { IsSome (found_in latest.old name.now) → Rebinds (found_in latest.old) (found_in latest.new) name.now (Some known) }
 {
@@ -88,7 +88,7 @@ impl<'a, T: Copy> Scopes<'a, T> {
         }
     }
 
-    // Takes the latest declaration back, if there is one.
+    /// Takes the latest declaration back, if there is one.
     fn undo(&mut self)
         ensures { self.new ≡ drop 1 self.old }
     {
@@ -112,6 +112,3 @@ impl<'a, T: Copy> Scopes<'a, T> {
         }
     }
 }
-
-#[cfg(test)]
-mod tests;

@@ -1,5 +1,5 @@
-use crate::bytes::{Name, Text};
 use sk_base::{Cell, EdgeMode, Op, Ty};
+use sk_names::{Name, Text};
 use sqlite_items::{Boxed, Items};
 
 /// A prefix of an expression.

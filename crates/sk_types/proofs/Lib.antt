@@ -1,8 +1,4 @@
-pub mod Extends
 pub mod FoundLemmas
-pub mod FunctionLemmas
-pub mod LeastLemmas
+pub mod MapLemmas
 pub mod NumberLemmas
-pub mod TakeLemmas
 pub mod ToldLemmas
-pub mod WalkLemmas

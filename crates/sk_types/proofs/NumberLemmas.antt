@@ -5,8 +5,8 @@ use Rattle.std.specs.Cmp.Lexicographic.{same_text}
 use Rattle.std.specs.Map.{lookup}
 use Rattle.std.specs.Option.{option_or}
 use Rattle.indexmap.specs.IndexMap.{insert_entry}
-use Rattle.sk_types.proofs.FoundLemmas.{turned}
-use Rattle.sk_tree.specs.Lexemes.{same_bytes}
+use Rattle.sk_types.proofs.MapLemmas.{turned, inserted}
+use Rattle.sk_names.specs.Bytes.{same_bytes}
 
 pub or_none : (a : Option ℕ) → option_or a None ≡ a
 or_none None = refl
@@ -44,18 +44,6 @@ lookup_more test (entry ∷ entries) key n = by (test entry.0) (lookup_more test
     by true rest = refl
     by false rest = rest
 
-inserted_last : {K : Type 0} (eq : K → K → Bool) (entries : List (K × ℕ)) (key : K) (n : ℕ)
-    → lookup (eq key) entries ≡ None → insert_entry eq entries key n ≡ entries ++ (key, n) ∷ []
-inserted_last eq [] key n none = refl
-inserted_last {K} eq (entry ∷ entries) key n none = by (eq key entry.0) refl (inserted_last eq entries key n)
-  where
-    by : (t : Bool) → eq key entry.0 ≡ t
-        → (lookup (eq key) entries ≡ None → insert_entry eq entries key n ≡ entries ++ (key, n) ∷ [])
-        → insert_entry eq (entry ∷ entries) key n ≡ entry ∷ (entries ++ (key, n) ∷ [])
-    by true is rest = absurd (cc (sym none ∙ ap (λ (t : Bool). cond t (Some entry.1) (lookup (eq key) entries)) is))
-    by false is rest = rw (is) (ap (λ (es : List (K × ℕ)). entry ∷ es)
-        (rest (ap (λ (t : Bool). cond t (Some entry.1) (lookup (eq key) entries)) (sym is) ∙ none)))
-
 is_none : (a : Option ℕ) → false ≡ is_some a → a ≡ None
 is_none None lacks = refl
 is_none (Some x) lacks = absurd (cc lacks)
@@ -71,7 +59,7 @@ noted_new entries after key name n items lacks after-is other =
     let missing : lookup (λ b. same_bytes key.items b.items) entries ≡ None =
     ap (λ bytes. lookup (λ b. same_bytes bytes b.items) entries) items
     ∙ is_none (lookup (λ b. same_bytes name b.items) entries) lacks in
-    ap (lookup (λ key. same_bytes other key.items)) (after-is ∙ inserted_last (λ a b. same_bytes a.items b.items) entries key n missing)
+    ap (lookup (λ key. same_bytes other key.items)) (after-is ∙ inserted (λ a b. same_bytes a.items b.items) entries key n missing)
     ∙ lookup_more (λ key. same_bytes other key.items) entries key n
     ∙ ap (λ (t : Bool). option_or (lookup (λ key. same_bytes other key.items) entries) (cond t (Some n) None))
     (ap (same_bytes other) items ∙ turned other name)

@@ -1,25 +1,25 @@
 -- What is kept of expressions tells the same faults as the definition.
 use Rattle.std.proofs.Common.{◌≡◌, ℕ, ◌==◌, Bool, true, false, if◌then◌else◌, List, [], ◌∷◌, ◌++◌, map, length, Option, Some, None, refl, sym, ◌∙◌, ap, ℤ, ◌≤◌, get_or, ◌-◌, slice_range, arith}
 use Rattle.std.proofs.lemmas.List.{length-map, take_all}
-use Rattle.sk_tree.specs.Bindings.{bound_to}
-use Rattle.sk_tree.specs.TypingExpressions.{Judged, first_dimension, scope_faults, container_faults, part_faults, all_part_faults, misplaced_faults, argument_faults, each_argument_faults, use_faults, applied_faults, applied_use, use_of, called_use, Judging, judged_of, judging_step, judged_all, value_faults}
-use Rattle.sk_tree.specs.TypingFaults.{comes_before, earlier, least_of}
-use Rattle.sk_tree.specs.TypingInstances.{form_faults, callee_of}
-use Rattle.sk_tree.specs.TypingNames as names
+use Rattle.sk_names.specs.Bindings.{bound_to}
+use Rattle.sk_typing.specs.TypingExpressions.{Judged, first_dimension, scope_faults, container_faults, part_faults, all_part_faults, misplaced_faults, argument_faults, each_argument_faults, use_faults, applied_faults, applied_use, use_of, called_use, Judging, judged_of, judging_step, judged_all, value_faults}
+use Rattle.sk_typing.specs.TypingFaults.{comes_before, earlier, least_of}
+use Rattle.sk_typing.specs.TypingInstances.{form_faults, callee_of}
+use Rattle.sk_typing.specs.TypingNames as names
 use Rattle.sk_tree.specs.declared.tree.Function.{Function}
 use Rattle.sk_tree.specs.declared.tree.Skeleton.{Skeleton}
-use Rattle.sk_tree.specs.declared.names.Expected.{Expected}
-use Rattle.sk_tree.specs.declared.names.Expected.TheVariants.{Number, Container}
-use Rattle.sk_tree.specs.declared.names.Fault.{Fault}
-use Rattle.sk_tree.specs.declared.names.FaultKind.TheVariants.{Unknown, Arity}
-use Rattle.sk_tree.specs.declared.names.Known.{Known}
-use Rattle.sk_tree.specs.declared.names.Use.{Use}
+use Rattle.sk_typing.specs.declared.names.Expected.{Expected}
+use Rattle.sk_typing.specs.declared.names.Expected.TheVariants.{Number, Container}
+use Rattle.sk_typing.specs.declared.names.Fault.{Fault}
+use Rattle.sk_typing.specs.declared.names.FaultKind.TheVariants.{Unknown, Arity}
+use Rattle.sk_typing.specs.declared.names.Known.{Known}
+use Rattle.sk_typing.specs.declared.names.Use.{Use}
 use Rattle.sk_tree.specs.declared.tree.Expr.{Expr}
 use Rattle.sk_tree.specs.declared.tree.Expr.TheOpen as layer
-use Rattle.sk_tree.specs.declared.names.Use.TheVariants.{Takes, Wrong, Free}
+use Rattle.sk_typing.specs.declared.names.Use.TheVariants.{Takes, Wrong, Free}
 use Rattle.sk_types.specs.declared.argument.Argument.{Argument}
 use Rattle.sk_types.specs.Told.{argument_of, first_kept, told_or, applied_told, part_told, parts_told, misplaced_told, argument_told, each_told, use_told}
-use Rattle.sk_types.proofs.LeastLemmas.{least_of_append}
+use Rattle.sk_typing_laws.proofs.Least.{least_of_append}
 
 pub first_is : (judged : List Judged) → first_kept (map argument_of judged) ≡ first_dimension judged
 first_is [] = refl

@@ -1,8 +1,8 @@
 -- What is answered for a program.
 use Rattle.std.specs.Prelude.{◌≡◌, Option, Some, ⊤}
-use Rattle.sk_tree.specs.declared.names.Fault.{Fault}
-use Rattle.sk_tree.specs.declared.names.Fault.TheVariants.{At, NoMain as NoMainFault}
-use Rattle.sk_tree.specs.declared.names.FaultKind.TheVariants.{Unknown as UnknownKind, Twice as TwiceKind, Mismatch as MismatchKind, Arity as ArityKind, NoReturn as NoReturnKind}
+use Rattle.sk_typing.specs.declared.names.Fault.{Fault}
+use Rattle.sk_typing.specs.declared.names.Fault.TheVariants.{At, NoMain as NoMainFault}
+use Rattle.sk_typing.specs.declared.names.FaultKind.TheVariants.{Unknown as UnknownKind, Twice as TwiceKind, Mismatch as MismatchKind, Arity as ArityKind, NoReturn as NoReturnKind}
 use Rattle.sk_types.specs.declared.fault.TypeFault.{TypeFault}
 use Rattle.sk_types.specs.declared.fault.TypeFault.TheVariants.{Unknown, Twice, Mismatch, Arity, NoReturn, NoMain, Memory}
 
@@ -16,6 +16,6 @@ told_as (At line ArityKind) = Arity line
 told_as (At line NoReturnKind) = NoReturn line
 
 -- a refusal tells the fault that there is; want of memory may be told always
-abbrev pub Tells : TypeFault → Option Fault → Type 0
-Tells Memory least = ⊤
-Tells refusal least = (fault : Fault) × (least ≡ Some fault) × (refusal ≡ told_as fault)
+abbrev pub TellsLeast : TypeFault → Option Fault → Type 0
+TellsLeast Memory least = ⊤
+TellsLeast refusal least = (fault : Fault) × (least ≡ Some fault) × (refusal ≡ told_as fault)

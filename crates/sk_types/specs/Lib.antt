@@ -1,4 +1,5 @@
 pub mod Answers
 pub mod Found
+pub mod Members
 pub mod Numbers
 pub mod Told

@@ -4,7 +4,7 @@ use Rattle.std.specs.List.{position_from}
 use Rattle.std.specs.Option.{option_or}
 use Rattle.std.specs.Global.{Vec}
 use Rattle.indexmap.specs.IndexMap.{IndexMap, get_by}
-use Rattle.sk_tree.specs.Lexemes.{same_bytes}
+use Rattle.sk_names.specs.Bytes.{same_bytes}
 use Rattle.sk_tree.specs.declared.tree.Function.{Function}
 
 abbrev pub Numbers : Type 0 → Type 0

@@ -1,15 +1,15 @@
 -- What is kept of an expression, and which of several faults is told.
 use Rattle.std.specs.Prelude.{ℕ, ◌==◌, if◌then◌else◌, List, [], ◌∷◌, length, Option, Some, None}
-use Rattle.sk_tree.specs.TypingExpressions.{Judged, container_dimension, scope_faults, container_faults, applied_use}
-use Rattle.sk_tree.specs.TypingFaults.{earlier, least_of}
-use Rattle.sk_tree.specs.TypingNames as names
-use Rattle.sk_tree.specs.declared.names.Expected.{Expected}
-use Rattle.sk_tree.specs.declared.names.Expected.TheVariants.{Number, Container}
-use Rattle.sk_tree.specs.declared.names.Fault.{Fault}
-use Rattle.sk_tree.specs.declared.names.FaultKind.TheVariants.{Unknown, Mismatch, Arity}
-use Rattle.sk_tree.specs.declared.names.Known.{Known}
-use Rattle.sk_tree.specs.declared.names.Use.{Use}
-use Rattle.sk_tree.specs.declared.names.Use.TheVariants.{Takes, Wrong, Free}
+use Rattle.sk_typing.specs.TypingExpressions.{Judged, container_dimension, scope_faults, container_faults, applied_use}
+use Rattle.sk_typing.specs.TypingFaults.{earlier, least_of, first_told}
+use Rattle.sk_typing.specs.TypingNames as names
+use Rattle.sk_typing.specs.declared.names.Expected.{Expected}
+use Rattle.sk_typing.specs.declared.names.Expected.TheVariants.{Number, Container}
+use Rattle.sk_typing.specs.declared.names.Fault.{Fault}
+use Rattle.sk_typing.specs.declared.names.FaultKind.TheVariants.{Unknown, Mismatch, Arity}
+use Rattle.sk_typing.specs.declared.names.Known.{Known}
+use Rattle.sk_typing.specs.declared.names.Use.{Use}
+use Rattle.sk_typing.specs.declared.names.Use.TheVariants.{Takes, Wrong, Free}
 use Rattle.sk_types.specs.declared.around.Around.{Around}
 use Rattle.sk_types.specs.declared.argument.Argument.{Argument}
 
@@ -26,11 +26,6 @@ seen around = record {
 -- of what is said of an expression, the fault that is told
 abbrev pub argument_of : Judged → Argument
 argument_of judged = record { is_name = judged.is_name; known = judged.known; least = least_of judged.faults }
-
--- the fault that is told of several things
-abbrev pub first_told : {X : Type 0} → (X → Option Fault) → List X → Option Fault
-first_told told [] = None
-first_told told (x ∷ xs) = earlier (told x) (first_told told xs)
 
 abbrev pub first_kept : List Argument → Option ℕ
 first_kept [] = None

@@ -1,12 +1,14 @@
 ghost use Rattle.std.specs.Prelude.{◌≡◌};
-ghost use Rattle.sk_tree.specs.TypingExpressions as expressions;
-ghost use Rattle.sk_tree.specs.TypingFaults.{least_of};
+ghost use Rattle.sk_typing.specs.TypingExpressions as expressions;
+ghost use Rattle.sk_typing.specs.TypingFaults.{least_of};
 ghost use Rattle.sk_types.specs.Told.{seen, first_kept, part_told, parts_told, argument_told, each_told, use_told};
 
 use crate::around::Around;
 use crate::kinds::same_type;
 use crate::least::earlier;
-use sk_tree::{Expected, Fault, FaultKind, Known, ParamKind, Ty, Use};
+use sk_base::Ty;
+use sk_tree::ParamKind;
+use sk_typing::{Expected, Fault, FaultKind, Known, Use};
 
 /// What is kept of an expression: whether it is a name alone, what that name stands for, and the fault that is told of it
 /// as a value.
@@ -33,7 +35,7 @@ pub(crate) fn first_dimension(arguments: &[Argument]) -> Option<u8>
     }
 }
 
-// The fault that is told of an argument, whatever it has to be.
+/// The fault that is told of an argument, whatever it has to be.
 fn part_fault(around: &Around, argument: &Argument) -> Option<Fault>
     ensures { result ≡ part_told (seen around.now) argument.now }
 {
@@ -57,6 +59,7 @@ pub(crate) fn parts_fault(around: &Around, arguments: &[Argument]) -> Option<Fau
     least
 }
 
+/// Whether a variable of that kind is a container of that dimension, where one is given, and of that element type.
 fn container_fits(dimension: Option<u8>, ty: Ty, kind: ParamKind) -> bool
     ensures { result ≡ expressions.container_fits dimension ty kind }
 {
@@ -69,7 +72,7 @@ fn container_fits(dimension: Option<u8>, ty: Ty, kind: ParamKind) -> bool
     }
 }
 
-// The fault that is told of a name where a container has to stand.
+/// The fault that is told of a name where a container has to stand.
 fn container_fault(
     around: &Around,
     dimension: Option<u8>,
@@ -87,7 +90,7 @@ fn container_fault(
     }
 }
 
-// The fault that is told of an argument where something is expected.
+/// The fault that is told of an argument where something is expected.
 fn argument_fault(around: &Around, expected: Expected, argument: &Argument) -> Option<Fault>
     ensures { result ≡ argument_told (seen around.now) expected argument.now }
 {
@@ -106,7 +109,7 @@ fn argument_fault(around: &Around, expected: Expected, argument: &Argument) -> O
     }
 }
 
-// The fault that is told of arguments where these are expected.
+/// The fault that is told of arguments where these are expected.
 fn each_fault(around: &Around, expected: &[Expected], arguments: &[Argument]) -> Option<Fault>
     ensures { result ≡ each_told (seen around.now) expected.now arguments.now }
 {

@@ -1,10 +1,11 @@
 ghost use Rattle.std.specs.Prelude.{◌≡◌};
-ghost use Rattle.sk_tree.specs.TypingFaults.{least_of};
-ghost use Rattle.sk_tree.specs.TypingNames as names;
-ghost use Rattle.sk_tree.specs.TypingStatements as statements;
+ghost use Rattle.sk_typing.specs.TypingFaults.{least_of};
+ghost use Rattle.sk_typing.specs.TypingNames as names;
+ghost use Rattle.sk_typing.specs.TypingStatements as statements;
 ghost use Rattle.sk_types.specs.Told.{seen};
 
-use sk_tree::{Fault, FaultKind, Function, Known};
+use sk_tree::Function;
+use sk_typing::{Fault, FaultKind, Known};
 
 /// The names in scope where something stands, which contracts see as their list, the latest first.
 pub(crate) type Scopes<'a> = sk_scopes::Scopes<'a, Known>;

@@ -1,10 +1,11 @@
-ghost use Rattle.std.specs.Prelude.{◌≡◌, map, length, if◌then◌else◌, false, true, None, Some, OnOk, IfOk};
-ghost use Rattle.sk_tree.specs.Bindings.{bound_to};
-ghost use Rattle.sk_tree.specs.TypingExpressions as expressions;
-ghost use Rattle.sk_tree.specs.TypingFaults.{least_of};
-ghost use Rattle.sk_tree.specs.TypingNames as names;
-ghost use Rattle.sk_tree.specs.declared.names.Known.TheVariants.{Function as FunctionName};
-ghost use Rattle.sk_tree.specs.declared.names.Use.TheVariants.{Takes};
+ghost use Rattle.std.specs.Prelude.{◌≡◌, map, length, false, true, None, Some, IfOk};
+ghost use Rattle.sk_names.specs.Bindings.{bound_to};
+ghost use Rattle.sk_typing.specs.TypingExpressions as expressions;
+ghost use Rattle.sk_typing.specs.TypingFaults.{least_of};
+ghost use Rattle.sk_typing.specs.TypingNames as names;
+ghost use Rattle.sk_typing.specs.declared.names.Known.TheVariants.{Function as FunctionName};
+ghost use Rattle.sk_typing.specs.declared.names.Use.TheVariants.{Takes};
+ghost use Rattle.sk_types.specs.Members.{has_member};
 ghost use Rattle.sk_types.specs.Told.{seen, argument_of, applied_told, first_kept};
 
 use crate::argument::{Argument, first_dimension, parts_fault, use_fault};
@@ -14,7 +15,8 @@ use crate::kinds::scalars_only;
 use crate::least::earlier;
 use crate::places::numbers;
 use crate::skeleton::value_use;
-use sk_tree::{Expr, Fault, FaultKind, Function, Known, ParamKind, Use};
+use sk_tree::{Expr, Function, ParamKind};
+use sk_typing::{Fault, FaultKind, Known, Use};
 use sqlite_items::Items;
 use std::alloc::{AllocError, Global};
 
@@ -29,38 +31,39 @@ pub(crate) fn scalar_fault(around: &Around, known: Option<Known>) -> Option<Faul
     }
 }
 
-fn field_fault(around: &Around, known: Option<Known>, field: &[u8]) -> Option<Fault>
-    ensures { result ≡ least_of (names.variable_faults (seen around.now) known
-        (λ kind. if around.now.in_main then false else names.is_field kind field.now)) }
+/// What a variable may have beside its value.
+#[derive(Clone, Copy)]
+pub(crate) enum Member {
+    /// A field, which user functions read.
+    Field,
+    /// A method, which main calls.
+    Method,
+}
+
+/// Whether a variable of that kind has the member, and may be asked for it here.
+fn has_member(around: &Around, member: Member, name: &[u8], kind: ParamKind) -> bool
+    ensures { result ≡ has_member around.now.in_main member name.now kind }
+{
+    match member {
+        Member::Field => !around.in_main && is_field(kind, name),
+        Member::Method => around.in_main && is_method(kind, name),
+    }
+}
+
+/// The fault that is told of a member of a name.
+fn member_fault(around: &Around, known: Option<Known>, member: Member, name: &[u8]) -> Option<Fault>
+    ensures { result ≡ least_of (names.variable_faults (seen around.now) known (has_member around.now.in_main member name.now)) }
 {
     match known {
         None => around.fault(FaultKind::Unknown),
         Some(Known::Variable(kind)) => {
-            around.unless(
-                !around.in_main && is_field(kind, field),
-                FaultKind::Mismatch,
-            )
+            around.unless(has_member(around, member, name, kind), FaultKind::Mismatch)
         }
         Some(_) => around.fault(FaultKind::Mismatch),
     }
 }
 
-fn method_fault(around: &Around, known: Option<Known>, method: &[u8]) -> Option<Fault>
-    ensures { result ≡ least_of (names.variable_faults (seen around.now) known
-        (λ kind. if around.now.in_main then names.is_method kind method.now else false)) }
-{
-    match known {
-        None => around.fault(FaultKind::Unknown),
-        Some(Known::Variable(kind)) => {
-            around.unless(
-                around.in_main && is_method(kind, method),
-                FaultKind::Mismatch,
-            )
-        }
-        Some(_) => around.fault(FaultKind::Mismatch),
-    }
-}
-
+/// What a function takes in an expression: as many values as it has parameters, where all of them are scalars.
 fn function_use(alloc: Global, function: &Function) -> Result<Use, AllocError>
     ensures { IfOk result (λ used. used ≡ expressions.function_use (Some function.now)) }
 {
@@ -73,6 +76,7 @@ fn function_use(alloc: Global, function: &Function) -> Result<Use, AllocError>
     }
 }
 
+/// What a container takes in an expression: an index for each dimension.
 pub(crate) fn element_use(alloc: Global, dimension: u8) -> Result<Use, AllocError>
     ensures { IfOk result (λ used. used ≡ Takes (names.numbers dimension)) }
 {
@@ -80,6 +84,7 @@ pub(crate) fn element_use(alloc: Global, dimension: u8) -> Result<Use, AllocErro
     Ok(Use::Takes(places))
 }
 
+/// What the function of that number takes, which has to stand before the one that this stands in.
 fn earlier_function_use(alloc: Global, around: &Around, number: usize) -> Result<Use, AllocError>
     ensures { IfOk result (λ used. used ≡ expressions.applied_use (seen around.now) 0 None (FunctionName number)) }
 {
@@ -123,7 +128,7 @@ fn applied_use(
     }
 }
 
-// What is kept of an expression that is no name.
+/// What is kept of an expression that is no name.
 fn value(least: Option<Fault>) -> Argument
     ensures { result ≡ record { is_name = false; known = None; least = least } }
 {
@@ -134,7 +139,7 @@ fn value(least: Option<Fault>) -> Argument
     }
 }
 
-// What is kept of a name alone.
+/// What is kept of a name alone.
 fn name_argument(around: &Around, known: Option<Known>) -> Argument
     ensures { result ≡ record { is_name = true; known = known; least = least_of (names.scalar_faults (seen around.now) known) } }
 {
@@ -169,7 +174,7 @@ fn applied_fault(
 
 /// What is kept of an expression.
 #[cycle(judged)]
-#[tactic(auto, using(crate::proofs::LeastLemmas::least_of_append, crate::proofs::ToldLemmas::applied_is))]
+#[tactic(auto, using(sk_typing_laws::proofs::Least::least_of_append, crate::proofs::ToldLemmas::applied_is))]
 pub(crate) fn judge(
     alloc: Global,
     around: &Around,
@@ -183,11 +188,11 @@ pub(crate) fn judge(
         Expr::Name(name) => Ok(name_argument(around, scopes.find(name.as_bytes()))),
         Expr::Field(name, field) => {
             let known = scopes.find(name.as_bytes());
-            Ok(value(field_fault(around, known, field.as_bytes())))
+            Ok(value(member_fault(around, known, Member::Field, field.as_bytes())))
         }
         Expr::Method(name, method) => {
             let known = scopes.find(name.as_bytes());
-            Ok(value(method_fault(around, known, method.as_bytes())))
+            Ok(value(member_fault(around, known, Member::Method, method.as_bytes())))
         }
         Expr::Unary(_, part) => Ok(value(judge(alloc, around, scopes, part.get())?.least)),
         Expr::Cast(_, part) => Ok(value(judge(alloc, around, scopes, part.get())?.least)),

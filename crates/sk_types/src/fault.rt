@@ -2,7 +2,7 @@ ghost use Rattle.std.specs.Prelude.{◌≡◌};
 ghost use Rattle.sk_types.specs.Answers.{told_as};
 ghost use Rattle.sk_types.specs.declared.fault.TypeFault.TheVariants.{Memory};
 
-use sk_tree::{Fault, FaultKind};
+use sk_typing::{Fault, FaultKind};
 use std::alloc::AllocError;
 use thiserror::Error;
 

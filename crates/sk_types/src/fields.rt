@@ -1,6 +1,6 @@
 ghost use Rattle.std.specs.Prelude.{◌≡◌};
-ghost use Rattle.sk_tree.specs.Lexemes.{same_bytes};
-ghost use Rattle.sk_tree.specs.TypingNames as names;
+ghost use Rattle.sk_names.specs.Bytes.{same_bytes};
+ghost use Rattle.sk_tree.specs.Parameters as parameters;
 
 use sk_tree::ParamKind;
 
@@ -11,14 +11,16 @@ pub(crate) fn spells(name: &[u8], word: &str) -> bool
     name == word.as_bytes()
 }
 
+/// Whether a name is the size of a container.
 fn is_size(name: &[u8]) -> bool
-    ensures { result ≡ names.is_size name.now }
+    ensures { result ≡ parameters.is_size name.now }
 {
     spells(name, "size")
 }
 
+/// Whether a name is one of the sizes of a tensor of that dimension.
 fn is_tensor_size(dimension: u8, name: &[u8]) -> bool
-    ensures { result ≡ names.is_tensor_size dimension name.now }
+    ensures { result ≡ parameters.is_tensor_size dimension name.now }
 {
     spells(name, "size_i")
         || spells(name, "size_j")
@@ -26,8 +28,9 @@ fn is_tensor_size(dimension: u8, name: &[u8]) -> bool
         || (dimension >= 4 && spells(name, "size_l"))
 }
 
+/// Whether a container parameter of that dimension has a field of that name.
 fn is_proxy_field(dimension: u8, name: &[u8]) -> bool
-    ensures { result ≡ names.is_proxy_field dimension name.now }
+    ensures { result ≡ parameters.is_proxy_field dimension name.now }
 {
     match dimension {
         1 => is_size(name),
@@ -36,8 +39,9 @@ fn is_proxy_field(dimension: u8, name: &[u8]) -> bool
     }
 }
 
+/// Whether an index of that dimension has a field of that name.
 fn is_index_field(dimension: u8, name: &[u8]) -> bool
-    ensures { result ≡ names.is_index_field dimension name.now }
+    ensures { result ≡ parameters.is_index_field dimension name.now }
 {
     match dimension {
         1 => spells(name, "i"),
@@ -51,8 +55,9 @@ fn is_index_field(dimension: u8, name: &[u8]) -> bool
     }
 }
 
+/// Whether a region of that dimension has a field of that name.
 fn is_region_field(dimension: u8, name: &[u8]) -> bool
-    ensures { result ≡ names.is_region_field dimension name.now }
+    ensures { result ≡ parameters.is_region_field dimension name.now }
 {
     match dimension {
         1 => spells(name, "oi"),
@@ -60,8 +65,9 @@ fn is_region_field(dimension: u8, name: &[u8]) -> bool
     }
 }
 
+/// Whether a container of that dimension has a method of that name in main.
 fn is_container_method(dimension: u8, name: &[u8]) -> bool
-    ensures { result ≡ names.is_container_method dimension name.now }
+    ensures { result ≡ parameters.is_container_method dimension name.now }
 {
     match dimension {
         1 => is_size(name),
@@ -72,7 +78,7 @@ fn is_container_method(dimension: u8, name: &[u8]) -> bool
 
 /// Whether a parameter has a field of that name.
 pub(crate) fn is_field(kind: ParamKind, name: &[u8]) -> bool
-    ensures { result ≡ names.is_field kind name.now }
+    ensures { result ≡ parameters.is_field kind name.now }
 {
     match kind {
         ParamKind::Scalar(_) => false,
@@ -84,7 +90,7 @@ pub(crate) fn is_field(kind: ParamKind, name: &[u8]) -> bool
 
 /// Whether a container of main has a method of that name.
 pub(crate) fn is_method(kind: ParamKind, name: &[u8]) -> bool
-    ensures { result ≡ names.is_method kind name.now }
+    ensures { result ≡ parameters.is_method kind name.now }
 {
     match kind {
         ParamKind::Proxy(dimension, _) => is_container_method(dimension, name),

@@ -1,10 +1,10 @@
 ghost use Rattle.std.specs.Prelude.{◌≡◌, ◌≤◌, ◌+◌, ◌||◌, ◌∷◌, length, IfOk, OnOk};
 ghost use Rattle.std.specs.List.{list_any};
-ghost use Rattle.sk_tree.specs.Typing as typing;
-ghost use Rattle.sk_tree.specs.TypingFaults.{earlier, least_of};
-ghost use Rattle.sk_tree.specs.TypingNames as names;
-ghost use Rattle.sk_tree.specs.TypingStatements as walks;
-ghost use Rattle.sk_tree.specs.declared.names.Known.TheVariants.{Function as FunctionName};
+ghost use Rattle.sk_typing.specs.Typing as typing;
+ghost use Rattle.sk_typing.specs.TypingFaults.{earlier, least_of};
+ghost use Rattle.sk_typing.specs.TypingNames as names;
+ghost use Rattle.sk_typing.specs.TypingStatements as walks;
+ghost use Rattle.sk_typing.specs.declared.names.Known.TheVariants.{Function as FunctionName};
 ghost use Rattle.sk_types.specs.Told.{seen};
 
 use crate::around::{Around, Scopes};
@@ -14,9 +14,12 @@ use crate::least::earlier;
 use crate::returning::block_returns;
 use crate::simple::twice_fault;
 use crate::statement::walk_block;
-use sk_tree::{Fault, FaultKind, Function, Known, Param, Statement, Ty};
+use sk_base::Ty;
+use sk_tree::{Function, Param, Statement};
+use sk_typing::{Fault, FaultKind, Known};
 use std::alloc::{AllocError, Global};
 
+/// Whether a function is named main.
 fn is_named_main(function: &Function) -> bool
     ensures { result ≡ typing.is_named_main function.now }
 {
@@ -32,7 +35,7 @@ pub(crate) fn is_main_header(function: &Function) -> bool
         && function.params.as_slice().is_empty()
 }
 
-// Whether a function is main, which stands last.
+/// Whether a function is main, which stands last.
 fn is_main(function: &Function, behind: &[Function]) -> bool
     ensures { result ≡ typing.is_main function.now behind.now }
 {
@@ -52,7 +55,7 @@ pub(crate) fn names_main(functions: &[Function]) -> bool
     }
 }
 
-// The fault that is told of parameters. They are in scope afterwards.
+/// The fault that is told of parameters. They are in scope afterwards.
 fn params_fault<'a>(
     around: &Around,
     scopes: &mut Scopes<'a>,
@@ -72,14 +75,14 @@ fn params_fault<'a>(
     }
 }
 
-// Whether a function may end so: main, or a block that returns.
+/// Whether a function may end so: main, or a block that returns.
 fn may_end(around: &Around, statements: &[Statement]) -> bool
     ensures { result ≡ (around.now.in_main || walks.block_returns statements.now) }
 {
     around.in_main || block_returns(statements)
 }
 
-// The fault that is told of a function whose name is in scope.
+/// The fault that is told of a function whose name is in scope.
 fn body_fault<'a>(
     alloc: Global,
     around: &Around,
@@ -100,7 +103,7 @@ fn body_fault<'a>(
     Ok(earlier(earlier(earlier(declared, ordered), body), ended))
 }
 
-// The fault that is told of the function of that number, which is the last one or not. Its name is in scope afterwards.
+/// The fault that is told of the function of that number, which is the last one or not. Its name is in scope afterwards.
 fn function_fault<'a>(
     alloc: Global,
     around: &Around,

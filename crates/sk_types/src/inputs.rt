@@ -1,14 +1,17 @@
 ghost use Rattle.std.specs.Prelude.{◌≡◌, ◌++◌, [], ◌∷◌, List, map, flat_map, slice_get, None, IfOk, OnOk};
 ghost use Rattle.std.specs.Option.{option_map};
-ghost use Rattle.sk_tree.specs.Inputs as taking;
-ghost use Rattle.sk_tree.specs.TypingFaults.{least_of};
+ghost use Rattle.sk_typing.specs.Inputs as taking;
+ghost use Rattle.sk_typing.specs.TypingFaults.{least_of};
 ghost use Rattle.sk_tree.specs.declared.declared.Declared.{Declared as DeclaredInput};
 ghost use Rattle.sk_types.specs.Found.{declared_in};
 
 use crate::kinds::same_type;
 use crate::least::earlier;
 use indexmap::IndexMap;
-use sk_tree::{Declared, Fault, FaultKind, Statement, Text, Ty, What};
+use sk_base::Ty;
+use sk_names::Text;
+use sk_tree::{Declared, Statement, What};
+use sk_typing::{Fault, FaultKind};
 use sqlite_items::Items;
 use std::alloc::{AllocError, Global};
 use std::marker::Model;
@@ -27,6 +30,7 @@ impl<'a> Model for Inputs<'a> {
 }
 
 impl<'a> Inputs<'a> {
+    /// No inputs.
     pub(crate) fn new(alloc: Global) -> Inputs<'a>
         ensures { result ≡ [] }
     {
@@ -35,14 +39,14 @@ impl<'a> Inputs<'a> {
         }
     }
 
-    // The kind and the type of the input of a name.
+    /// The kind and the type of the input of a name.
     fn find(&self, name: &[u8]) -> Option<(u8, Ty)>
         ensures { result ≡ option_map (λ input. (input.kind, input.ty)) (taking.input_named name.now self.now) }
     {
         self.found.get(name).copied()
     }
 
-    // One more input.
+    /// One more input.
     fn add(&mut self, name: &'a [u8], kind: u8, ty: Ty) -> Result<(), AllocError>
         requires { taking.input_named name.now self.old ≡ None }
         ensures { OnOk result (self.new ≡ self.old ++ record { name = name.now; kind = kind; ty = ty } ∷ []) }
@@ -51,7 +55,7 @@ impl<'a> Inputs<'a> {
         Ok(())
     }
 
-    // A copy of the input at an index.
+    /// A copy of the input at an index.
     fn copy_at(&self, alloc: Global, index: usize) -> Result<Option<Declared>, AllocError>
         ensures { IfOk result (λ found. found ≡ slice_get self.now index) }
     {
@@ -82,7 +86,7 @@ impl<'a> Inputs<'a> {
         }
     }
 
-    // A container that takes an input, at its line, with the fault that is told of it.
+    /// A container that takes an input, at its line, with the fault that is told of it.
     fn declare(
         &mut self,
         line: u32,

@@ -1,18 +1,22 @@
 ghost use Rattle.std.specs.Prelude.{◌≡◌, ◌∷◌, ◌==◌, Some, map, flat_map, length, if◌then◌else◌};
 ghost use Rattle.std.specs.Option.{option_copied};
-ghost use Rattle.sk_tree.specs.Bindings.{bound_to};
-ghost use Rattle.sk_tree.specs.TypingFaults.{least_of};
-ghost use Rattle.sk_tree.specs.TypingInstances as instances;
-ghost use Rattle.sk_tree.specs.TypingNames as names;
-ghost use Rattle.sk_tree.specs.declared.names.FaultKind.TheVariants.{Arity};
+ghost use Rattle.sk_names.specs.Bindings.{bound_to};
+ghost use Rattle.sk_typing.specs.TypingFaults.{least_of};
+ghost use Rattle.sk_typing.specs.TypingInstances as instances;
+ghost use Rattle.sk_typing.specs.TypingNames as names;
+ghost use Rattle.sk_typing.specs.declared.names.FaultKind.TheVariants.{Arity};
 ghost use Rattle.sk_types.specs.Told.{seen};
+ghost use Rattle.sk_tree.specs.Skeletons as skeletons;
 
 use crate::around::{Around, Scopes};
 use crate::least::earlier;
 use crate::skeleton::{elements_of, fits_skeleton, function_count, is_second, numbers_fit};
-use sk_tree::{Cell, Fault, FaultKind, Function, Instance, Known, Made, Name, Skeleton, Ty};
+use sk_base::{Cell, Ty};
+use sk_names::Name;
+use sk_tree::{Function, Instance, Skeleton};
+use sk_typing::{Fault, FaultKind, Known, Made};
 
-// The fault that is told of a name in an instance, which has to stand for a function before main.
+/// The fault that is told of a name in an instance, which has to stand for a function before main.
 fn callee_fault(around: &Around, known: Option<Known>) -> Option<Fault>
     ensures { result ≡ least_of (instances.callee_faults (seen around.now) known) }
 {
@@ -25,6 +29,7 @@ fn callee_fault(around: &Around, known: Option<Known>) -> Option<Fault>
     }
 }
 
+/// The fault that is told of the names of functions in an instance.
 fn callees_fault(around: &Around, scopes: &Scopes, functions: &[Name]) -> Option<Fault>
     ensures { result ≡ least_of (flat_map (λ name. instances.callee_faults (seen around.now) (bound_to name scopes.now)) functions.now) }
 {
@@ -36,7 +41,7 @@ fn callees_fault(around: &Around, scopes: &Scopes, functions: &[Name]) -> Option
     least
 }
 
-// The function that a name in an instance stands for.
+/// The function that a name in an instance stands for.
 fn callee<'a>(around: &Around<'a>, known: Option<Known>) -> Option<&'a Function>
     ensures { option_copied result ≡ instances.callee_of (seen around.now) known }
 {
@@ -52,7 +57,7 @@ fn callee<'a>(around: &Around<'a>, known: Option<Known>) -> Option<&'a Function>
     }
 }
 
-// The fault that is told of a second function, where there is one.
+/// The fault that is told of a second function, where there is one.
 fn second_fault(around: &Around, scopes: &Scopes, ty: Ty, functions: &[Name]) -> Option<Fault>
     ensures { result ≡ least_of (instances.second_faults (seen around.now) ty
         (map (λ name. instances.callee_of (seen around.now) (bound_to name scopes.now)) functions.now)) }
@@ -66,7 +71,7 @@ fn second_fault(around: &Around, scopes: &Scopes, ty: Ty, functions: &[Name]) ->
     }
 }
 
-// The fault that is told of an instance with a first function, and others by name.
+/// The fault that is told of an instance with a first function, and others by name.
 fn first_fault(
     around: &Around,
     scopes: &Scopes,
@@ -88,7 +93,7 @@ fn first_fault(
     earlier(earlier(misfit, miscount), second)
 }
 
-// The fault that is told of an instance that does not fit its functions, as far as they are known.
+/// The fault that is told of an instance that does not fit its functions, as far as they are known.
 fn form_fault(
     around: &Around,
     scopes: &Scopes,
@@ -108,8 +113,9 @@ fn form_fault(
     }
 }
 
+/// The fault that is told of the number of functions in an instance, or else of how it fits them.
 fn fit_fault(around: &Around, scopes: &Scopes, instance: &Instance) -> Option<Fault>
-    ensures { result ≡ least_of (if length instance.now.functions == instances.function_count instance.now.skeleton
+    ensures { result ≡ least_of (if length instance.now.functions == skeletons.function_count instance.now.skeleton
         then instances.form_faults (seen around.now) instance.now.skeleton instance.now.numbers
         (map (λ name. instances.callee_of (seen around.now) (bound_to name scopes.now)) instance.now.functions)
         else names.fault (seen around.now) Arity) }
@@ -138,6 +144,7 @@ pub(crate) fn instance_fault(around: &Around, scopes: &Scopes, instance: &Instan
     )
 }
 
+/// The number of the first function of an instance, or 0 where its name stands for none.
 fn first_number(scopes: &Scopes, functions: &[Name]) -> usize
     ensures { result ≡ instances.first_number scopes.now functions.now }
 {
@@ -150,8 +157,9 @@ fn first_number(scopes: &Scopes, functions: &[Name]) -> usize
     }
 }
 
+/// How many elements an instance takes whose first function has that number.
 fn elements_at(around: &Around, number: usize, skeleton: Skeleton, numbers: &[Cell]) -> usize
-    ensures { result ≡ instances.elements_of skeleton numbers.now (instances.kinds_at (seen around.now) number) }
+    ensures { result ≡ skeletons.elements_of skeleton numbers.now (instances.kinds_at (seen around.now) number) }
 {
     match around.functions.get(number) {
         Some(function) => elements_of(skeleton, numbers, function.params.as_slice()),
@@ -160,7 +168,7 @@ fn elements_at(around: &Around, number: usize, skeleton: Skeleton, numbers: &[Ce
 }
 
 /// What an instance is known as, with the fault that is told of it.
-#[tactic(auto, using(crate::proofs::LeastLemmas::none_told))]
+#[tactic(auto, using(sk_typing_laws::proofs::Least::none_told))]
 pub(crate) fn instance_known(
     around: &Around,
     scopes: &Scopes,

@@ -1,25 +1,28 @@
 ghost use Rattle.std.specs.Prelude.{◌≡◌, ◌≤◌, map, length};
 ghost use Rattle.std.specs.List.{list_any};
-ghost use Rattle.sk_tree.specs.Eager as eager;
-ghost use Rattle.sk_tree.specs.TypingInstances as instances;
-ghost use Rattle.sk_tree.specs.TypingNames as names;
+ghost use Rattle.sk_tree.specs.Parameters as parameters;
+ghost use Rattle.sk_tree.specs.Skeletons as skeletons;
 
-use sk_tree::{Param, ParamKind, Ty};
+use sk_base::Ty;
+use sk_tree::{Param, ParamKind};
 
+/// Whether a parameter is a scalar.
 pub(crate) fn is_scalar(kind: ParamKind) -> bool
-    ensures { result ≡ names.is_scalar kind }
+    ensures { result ≡ parameters.is_scalar kind }
 {
     matches!(kind, ParamKind::Scalar(_))
 }
 
+/// Whether a parameter is a region.
 pub(crate) fn is_region(kind: ParamKind) -> bool
-    ensures { result ≡ names.is_region kind }
+    ensures { result ≡ parameters.is_region kind }
 {
     matches!(kind, ParamKind::Region(_, _))
 }
 
+/// Whether two types are the same.
 pub(crate) fn same_type(ty: Ty, other: Ty) -> bool
-    ensures { result ≡ names.same_type ty other }
+    ensures { result ≡ parameters.same_type ty other }
 {
     match ty {
         Ty::Int => matches!(other, Ty::Int),
@@ -29,7 +32,7 @@ pub(crate) fn same_type(ty: Ty, other: Ty) -> bool
 
 /// Whether all parameters are scalars.
 pub(crate) fn scalars_only(params: &[Param]) -> bool
-    ensures { result ≡ names.scalars_only (map (λ param. param.kind) params.now) }
+    ensures { result ≡ parameters.scalars_only (map (λ param. param.kind) params.now) }
 {
     match params {
         [] => true,
@@ -37,8 +40,9 @@ pub(crate) fn scalars_only(params: &[Param]) -> bool
     }
 }
 
+/// Whether parameters are containers, and then scalars.
 fn proxies_then_scalars(params: &[Param]) -> bool
-    ensures { result ≡ names.proxies_then_scalars (map (λ param. param.kind) params.now) }
+    ensures { result ≡ parameters.proxies_then_scalars (map (λ param. param.kind) params.now) }
 {
     match params {
         [first, rest @ ..] => match first.kind {
@@ -49,8 +53,9 @@ fn proxies_then_scalars(params: &[Param]) -> bool
     }
 }
 
+/// Whether parameters are scalars, then containers, and then scalars.
 fn scalars_then_proxies(params: &[Param]) -> bool
-    ensures { result ≡ names.scalars_then_proxies (map (λ param. param.kind) params.now) }
+    ensures { result ≡ parameters.scalars_then_proxies (map (λ param. param.kind) params.now) }
 {
     match params {
         [first, rest @ ..] => match first.kind {
@@ -61,8 +66,9 @@ fn scalars_then_proxies(params: &[Param]) -> bool
     }
 }
 
+/// Whether parameters stand in order behind an index, if there is one.
 fn ordered_after_index(params: &[Param]) -> bool
-    ensures { result ≡ names.ordered_after_index (map (λ param. param.kind) params.now) }
+    ensures { result ≡ parameters.ordered_after_index (map (λ param. param.kind) params.now) }
 {
     match params {
         [first, rest @ ..] => match first.kind {
@@ -75,7 +81,7 @@ fn ordered_after_index(params: &[Param]) -> bool
 
 /// Whether parameters stand in the order index, scalars or one region, proxies, scalars.
 pub(crate) fn are_ordered(params: &[Param]) -> bool
-    ensures { result ≡ names.are_ordered (map (λ param. param.kind) params.now) }
+    ensures { result ≡ parameters.are_ordered (map (λ param. param.kind) params.now) }
 {
     match params {
         [first, rest @ ..] => match first.kind {
@@ -86,8 +92,9 @@ pub(crate) fn are_ordered(params: &[Param]) -> bool
     }
 }
 
+/// Whether a parameter is a region.
 pub(crate) fn has_region(params: &[Param]) -> bool
-    ensures { result ≡ list_any names.is_region (map (λ param. param.kind) params.now) }
+    ensures { result ≡ list_any parameters.is_region (map (λ param. param.kind) params.now) }
 {
     match params {
         [] => false,
@@ -97,7 +104,7 @@ pub(crate) fn has_region(params: &[Param]) -> bool
 
 /// How many scalars stand before the first container.
 pub(crate) fn leading_scalars(params: &[Param]) -> usize
-    ensures value { result ≡ eager.leading_scalars (map (λ param. param.kind) params.now) }
+    ensures value { result ≡ parameters.leading_scalars (map (λ param. param.kind) params.now) }
     ensures within { result ≤ length params.now }
 {
     match params {
@@ -113,7 +120,7 @@ pub(crate) fn leading_scalars(params: &[Param]) -> usize
 
 /// How many parameters are scalars.
 pub(crate) fn scalar_count(params: &[Param]) -> usize
-    ensures value { result ≡ length (names.scalar_types (map (λ param. param.kind) params.now)) }
+    ensures value { result ≡ length (parameters.scalar_types (map (λ param. param.kind) params.now)) }
     ensures within { result ≤ length params.now }
 {
     match params {
@@ -127,7 +134,7 @@ pub(crate) fn scalar_count(params: &[Param]) -> usize
 
 /// The dimension of the index parameter, which stands first.
 pub(crate) fn index_dimension(params: &[Param]) -> Option<u8>
-    ensures { result ≡ instances.index_dimension (map (λ param. param.kind) params.now) }
+    ensures { result ≡ parameters.index_dimension (map (λ param. param.kind) params.now) }
 {
     match params {
         [] => None,
@@ -138,8 +145,9 @@ pub(crate) fn index_dimension(params: &[Param]) -> Option<u8>
     }
 }
 
+/// Whether the index parameter, if there is one, has that dimension.
 pub(crate) fn index_fits(params: &[Param], dimension: u8) -> bool
-    ensures { result ≡ instances.index_fits (map (λ param. param.kind) params.now) dimension }
+    ensures { result ≡ parameters.index_fits (map (λ param. param.kind) params.now) dimension }
 {
     match index_dimension(params) {
         Some(index) => index == dimension,
@@ -149,7 +157,7 @@ pub(crate) fn index_fits(params: &[Param], dimension: u8) -> bool
 
 /// The dimension and the element type of the region parameter, which stands first or behind the index.
 pub(crate) fn region_of(params: &[Param]) -> Option<(u8, Ty)>
-    ensures { result ≡ instances.region_of (map (λ param. param.kind) params.now) }
+    ensures { result ≡ parameters.region_of (map (λ param. param.kind) params.now) }
 {
     match params {
         [] => None,
@@ -163,7 +171,7 @@ pub(crate) fn region_of(params: &[Param]) -> Option<(u8, Ty)>
 
 /// Whether a function with these parameters and this return type is an operator of the type.
 pub(crate) fn is_operator(ty: Ty, params: &[Param]) -> bool
-    ensures { result ≡ instances.is_operator ty (map (λ param. param.kind) params.now) }
+    ensures { result ≡ skeletons.is_operator ty (map (λ param. param.kind) params.now) }
 {
     match params {
         [left, right] => match left.kind {

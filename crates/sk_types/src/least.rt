@@ -1,9 +1,9 @@
 ghost use Rattle.std.specs.Prelude.{◌≡◌};
-ghost use Rattle.sk_tree.specs.TypingFaults as faults;
+ghost use Rattle.sk_typing.specs.TypingFaults as faults;
 
-use sk_tree::{Fault, FaultKind};
+use sk_typing::{Fault, FaultKind};
 
-// The place of a kind among the faults of one line.
+/// The place of a kind among the faults of one line.
 fn rank(kind: FaultKind) -> u32
     ensures { result ≡ faults.rank kind }
 {
@@ -16,6 +16,7 @@ fn rank(kind: FaultKind) -> u32
     }
 }
 
+/// Whether a fault is told before another one.
 fn comes_before(fault: Fault, other: Fault) -> bool
     ensures { result ≡ faults.comes_before fault other }
 {

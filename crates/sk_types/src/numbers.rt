@@ -8,7 +8,7 @@ use std::alloc::{AllocError, Global};
 /// Functions' numbers by their names.
 pub(crate) type FunctionNumbers = IndexMap<Vec<u8>, u32>;
 
-// A name with its number, unless it has one.
+/// A name with its number, unless it has one.
 fn note(
     alloc: Global,
     numbers: &mut FunctionNumbers,
@@ -24,7 +24,7 @@ fn note(
     Ok(())
 }
 
-// The names of functions with their numbers from one on, each unless it has one.
+/// The names of functions with their numbers from one on, each unless it has one.
 fn note_all(
     alloc: Global,
     numbers: &mut FunctionNumbers,

@@ -1,9 +1,10 @@
 ghost use Rattle.std.specs.Prelude.{◌≡◌, ◌++◌, ◌-◌, map, length, OnOk, IfOk};
-ghost use Rattle.sk_tree.specs.TypingInstances as instances;
-ghost use Rattle.sk_tree.specs.TypingNames as names;
+ghost use Rattle.sk_typing.specs.TypingInstances as instances;
+ghost use Rattle.sk_typing.specs.TypingNames as names;
 
 use crate::kinds::scalar_count;
-use sk_tree::{Expected, Param, ParamKind};
+use sk_tree::{Param, ParamKind};
+use sk_typing::Expected;
 use sqlite_items::Items;
 use std::alloc::{AllocError, Global};
 

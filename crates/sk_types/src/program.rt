@@ -1,18 +1,19 @@
 ghost use Rattle.std.specs.Prelude.{◌≡◌, [], IfOk, OnOk};
 ghost use Rattle.std.specs.List.{list_any};
 ghost use Rattle.std.specs.Option.{option_copied};
-ghost use Rattle.sk_tree.specs.Inputs as taking;
-ghost use Rattle.sk_tree.specs.Typing as typing;
-ghost use Rattle.sk_tree.specs.TypingFaults.{least_of};
+ghost use Rattle.sk_typing.specs.Inputs as taking;
+ghost use Rattle.sk_typing.specs.Typing as typing;
+ghost use Rattle.sk_typing.specs.TypingFaults.{least_of};
 
 use crate::around::Scopes;
 use crate::function::{functions_fault, is_main_header, names_main};
 use crate::inputs::{Inputs, take_inputs};
 use crate::least::earlier;
-use sk_tree::{Fault, Function, Program};
+use sk_tree::{Function, Program};
+use sk_typing::Fault;
 use std::alloc::{AllocError, Global};
 
-// main, if there is one.
+/// main, if there is one.
 fn main_of(program: &Program) -> Option<&Function>
     ensures { option_copied result ≡ typing.main_of program.now }
 {
@@ -29,13 +30,14 @@ fn main_of(program: &Program) -> Option<&Function>
     }
 }
 
-// Whether a function before the last one is named main.
+/// Whether a function before the last one is named main.
 fn has_earlier_main(functions: &[Function]) -> bool
     ensures { result ≡ list_any typing.is_named_main (typing.earlier_functions functions.now) }
 {
     names_main(&functions[..functions.len().saturating_sub(1)])
 }
 
+/// The fault that is told where there is no main, or one more.
 fn main_fault(program: &Program) -> Option<Fault>
     ensures { result ≡ least_of (typing.main_faults program.now) }
 {
@@ -51,6 +53,7 @@ fn main_fault(program: &Program) -> Option<Fault>
     }
 }
 
+/// The fault that is told of the inputs of main, which are found afterwards.
 fn input_fault<'a>(
     program: &'a Program,
     inputs: &mut Inputs<'a>,

@@ -1,5 +1,5 @@
 ghost use Rattle.std.specs.Prelude.{◌≡◌};
-ghost use Rattle.sk_tree.specs.TypingStatements as walks;
+ghost use Rattle.sk_typing.specs.TypingStatements as walks;
 
 use sk_tree::{Statement, What};
 

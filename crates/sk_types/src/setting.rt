@@ -1,12 +1,14 @@
 ghost use Rattle.std.specs.Prelude.{◌≡◌, map, IfOk};
-ghost use Rattle.sk_tree.specs.TypingInstances as instances;
-ghost use Rattle.sk_tree.specs.TypingNames as names;
+ghost use Rattle.sk_typing.specs.TypingInstances as instances;
+ghost use Rattle.sk_typing.specs.TypingNames as names;
 
 use crate::kinds::region_of;
 use crate::places::numbers;
-use sk_tree::{FaultKind, Function, Made, Param, Setting, Skeleton, Use};
+use sk_tree::{Function, Param, Setting, Skeleton};
+use sk_typing::{FaultKind, Made, Use};
 use std::alloc::{AllocError, Global};
 
+/// Whether a skeleton has a start value.
 fn has_start(skeleton: Skeleton) -> bool
     ensures { result ≡ instances.has_start skeleton }
 {
@@ -16,24 +18,28 @@ fn has_start(skeleton: Skeleton) -> bool
     )
 }
 
+/// Whether a skeleton may go by lines.
 fn has_lines(skeleton: Skeleton) -> bool
     ensures { result ≡ instances.has_lines skeleton }
 {
     matches!(skeleton, Skeleton::Reduce | Skeleton::MapPairsReduce)
 }
 
+/// Whether a skeleton is Scan.
 fn is_scan(skeleton: Skeleton) -> bool
     ensures { result ≡ instances.is_scan skeleton }
 {
     matches!(skeleton, Skeleton::Scan)
 }
 
+/// Whether a skeleton is MapOverlap.
 fn is_overlap(skeleton: Skeleton) -> bool
     ensures { result ≡ instances.is_overlap skeleton }
 {
     matches!(skeleton, Skeleton::MapOverlap)
 }
 
+/// How many values an overlap takes: two where the region has two dimensions and two are given, and otherwise one.
 fn overlap_count(params: &[Param], count: usize) -> usize
     ensures { result ≡ instances.overlap_count (map (λ param. param.kind) params.now) count }
 {
@@ -43,6 +49,7 @@ fn overlap_count(params: &[Param], count: usize) -> usize
     }
 }
 
+/// So many values, where the skeleton has the setting.
 fn takes_if(alloc: Global, fits: bool, count: usize) -> Result<Use, AllocError>
     ensures { IfOk result (λ used. used ≡ instances.takes_if fits (names.numbers count)) }
 {

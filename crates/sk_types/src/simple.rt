@@ -1,12 +1,12 @@
 ghost use Rattle.std.specs.Prelude.{◌≡◌, ◌++◌, [], ◌∷◌, flat_map, if◌then◌else◌, IfOk, OnOk};
-ghost use Rattle.sk_tree.specs.Bindings.{bound_to};
-ghost use Rattle.sk_tree.specs.TypingExpressions as expressions;
-ghost use Rattle.sk_tree.specs.TypingFaults.{earlier, least_of};
-ghost use Rattle.sk_tree.specs.TypingInstances as instances;
-ghost use Rattle.sk_tree.specs.TypingNames as names;
-ghost use Rattle.sk_tree.specs.TypingStatements as statements;
-ghost use Rattle.sk_tree.specs.declared.names.FaultKind.TheVariants.{Mismatch};
-ghost use Rattle.sk_tree.specs.declared.names.Known.TheVariants.{Variable};
+ghost use Rattle.sk_names.specs.Bindings.{bound_to};
+ghost use Rattle.sk_typing.specs.TypingExpressions as expressions;
+ghost use Rattle.sk_typing.specs.TypingFaults.{earlier, least_of};
+ghost use Rattle.sk_typing.specs.TypingInstances as instances;
+ghost use Rattle.sk_typing.specs.TypingNames as names;
+ghost use Rattle.sk_typing.specs.TypingStatements as statements;
+ghost use Rattle.sk_typing.specs.declared.names.FaultKind.TheVariants.{Mismatch};
+ghost use Rattle.sk_typing.specs.declared.names.Known.TheVariants.{Variable};
 ghost use Rattle.sk_tree.specs.declared.tree.ParamKind.TheVariants.{Scalar, Proxy};
 ghost use Rattle.sk_tree.specs.declared.tree.What.TheOpen as layer;
 ghost use Rattle.sk_types.specs.Told.{seen};
@@ -18,7 +18,10 @@ use crate::instance::{instance_fault, instance_known};
 use crate::least::earlier;
 use crate::places::numbers;
 use crate::uses::{called_use, judge_setting, poked_use, set_use, used_fault, value_fault};
-use sk_tree::{Expr, Fault, FaultKind, Instance, Item, Known, Name, ParamKind, Setting, Ty, Use};
+use sk_base::Ty;
+use sk_names::Name;
+use sk_tree::{Expr, Instance, Item, ParamKind, Setting};
+use sk_typing::{Fault, FaultKind, Known, Use};
 use std::alloc::{AllocError, Global};
 
 /// The fault that is told of a declaration of a name that is in scope.
@@ -31,7 +34,7 @@ pub(crate) fn twice_fault(around: &Around, scopes: &Scopes, name: &[u8]) -> Opti
     }
 }
 
-// A declaration, with what else is told of it.
+/// A declaration, with what else is told of it.
 fn declaring<'a>(
     around: &Around,
     scopes: &mut Scopes<'a>,
@@ -47,7 +50,7 @@ fn declaring<'a>(
     Ok(earlier(twice, more))
 }
 
-// A declaration that a user function may not have.
+/// A declaration that a user function may not have.
 fn misplaced<'a>(
     around: &Around,
     scopes: &mut Scopes<'a>,
@@ -62,7 +65,7 @@ fn misplaced<'a>(
 }
 
 /// `type name = value`
-#[tactic(auto, using(crate::proofs::LeastLemmas::joined))]
+#[tactic(auto, using(sk_typing_laws::proofs::Least::joined))]
 pub(crate) fn declare<'a>(
     alloc: Global,
     around: &Around,
@@ -85,7 +88,7 @@ pub(crate) fn declare<'a>(
     )
 }
 
-// The fault that is told of a value that main alone looks at.
+/// The fault that is told of a value that main alone looks at.
 fn value_in_main(
     alloc: Global,
     around: &Around,
@@ -103,7 +106,7 @@ fn value_in_main(
 }
 
 /// `name = value`
-#[tactic(auto, using(crate::proofs::LeastLemmas::joined))]
+#[tactic(auto, using(sk_typing_laws::proofs::Least::joined))]
 pub(crate) fn assign(
     alloc: Global,
     around: &Around,
@@ -127,6 +130,7 @@ pub(crate) fn assign(
     }
 }
 
+/// The fault that is told of an element write in main.
 fn poke_in_main(
     alloc: Global,
     around: &Around,
@@ -165,6 +169,7 @@ pub(crate) fn poke(
     }
 }
 
+/// The fault that is told of the sizes and the fill value of a new container.
 fn make_fault(
     alloc: Global,
     around: &Around,
@@ -227,6 +232,7 @@ pub(crate) fn take<'a>(
     }
 }
 
+/// The declaration of an instance in main.
 fn instance_in_main<'a>(
     around: &Around,
     scopes: &mut Scopes<'a>,
@@ -236,12 +242,16 @@ fn instance_in_main<'a>(
         names.unless around.now.outermost (seen around.now) Mismatch ++ instances.instance_faults (seen around.now) scopes.old instance.now))) }
     ensures names { OnOk result (scopes.new ≡ (instance.now.name, instances.instance_known (seen around.now) scopes.old instance.now) ∷ scopes.old) }
 {
-    let twice = twice_fault(around, scopes, instance.name.as_bytes());
-    let placed = around.unless(around.outermost, FaultKind::Mismatch);
     let misfit = instance_fault(around, scopes, instance);
     let known = instance_known(around, scopes, instance, misfit);
-    scopes.declare(instance.name.as_bytes(), known)?;
-    Ok(earlier(twice, earlier(placed, misfit)))
+    let placed = around.unless(around.outermost, FaultKind::Mismatch);
+    declaring(
+        around,
+        scopes,
+        &instance.name,
+        known,
+        earlier(placed, misfit),
+    )
 }
 
 /// The declaration of an instance.
@@ -262,6 +272,7 @@ pub(crate) fn declare_instance<'a>(
     }
 }
 
+/// The fault that is told of a setting in main.
 fn set_in_main(
     alloc: Global,
     around: &Around,
@@ -296,6 +307,7 @@ pub(crate) fn set(
     }
 }
 
+/// The fault that is told of a call statement in main.
 fn call_in_main(
     alloc: Global,
     around: &Around,
@@ -329,6 +341,7 @@ pub(crate) fn call(
     }
 }
 
+/// The fault that is told of an item that is printed.
 fn item_fault(
     alloc: Global,
     around: &Around,
@@ -344,6 +357,7 @@ fn item_fault(
     }
 }
 
+/// The fault that is told of items that are printed.
 fn items_fault(
     alloc: Global,
     around: &Around,

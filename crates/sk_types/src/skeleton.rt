@@ -1,22 +1,26 @@
 ghost use Rattle.std.specs.Prelude.{◌≡◌, [], ◌∷◌, ◌++◌, map, nat_le, nat_abs, unsigned_abs, OnOk, IfOk, None, Some};
 ghost use Rattle.sk_base.specs.declared.number.Ty.TheVariants.{Int};
-ghost use Rattle.sk_tree.specs.TypingInstances as instances;
-ghost use Rattle.sk_tree.specs.TypingNames as names;
-ghost use Rattle.sk_tree.specs.declared.names.Expected.TheVariants.{Container};
-ghost use Rattle.sk_tree.specs.declared.names.Use.TheVariants.{Takes};
+ghost use Rattle.sk_typing.specs.TypingInstances as instances;
+ghost use Rattle.sk_typing.specs.declared.names.Expected.TheVariants.{Container};
+ghost use Rattle.sk_typing.specs.declared.names.Use.TheVariants.{Takes};
 ghost use Rattle.sk_tree.specs.declared.tree.Skeleton.TheVariants.{Map, MapReduce, MapOverlap, MapPairs};
+ghost use Rattle.sk_tree.specs.Skeletons as skeletons;
+ghost use Rattle.sk_tree.specs.Parameters as parameters;
+ghost use Rattle.sk_tree.specs.Functions as functions;
 
 use crate::kinds::{
     has_region, index_dimension, index_fits, is_operator, leading_scalars, region_of, same_type,
 };
 use crate::places::{push_elements, push_further};
-use sk_tree::{Cell, Expected, FaultKind, Function, Made, Param, Skeleton, Ty, Use};
+use sk_base::{Cell, Ty};
+use sk_tree::{Function, Param, Skeleton};
+use sk_typing::{Expected, FaultKind, Made, Use};
 use sqlite_items::Items;
 use std::alloc::{AllocError, Global};
 
 /// How many functions an instance names.
 pub(crate) fn function_count(skeleton: Skeleton) -> usize
-    ensures { result ≡ instances.function_count skeleton }
+    ensures { result ≡ skeletons.function_count skeleton }
 {
     match skeleton {
         Skeleton::MapReduce | Skeleton::MapPairsReduce => 2,
@@ -24,14 +28,16 @@ pub(crate) fn function_count(skeleton: Skeleton) -> usize
     }
 }
 
+/// Whether a function with these parameters can be the first of a skeleton over pairs.
 fn fits_pairs(params: &[Param]) -> bool
-    ensures { result ≡ instances.fits_skeleton MapPairs Int (map (λ param. param.kind) params.now) }
+    ensures { result ≡ skeletons.fits_skeleton MapPairs Int (map (λ param. param.kind) params.now) }
 {
     !has_region(params) && leading_scalars(params) >= 2 && index_fits(params, 2)
 }
 
+/// Whether a function with these parameters can be that of MapOverlap.
 fn fits_overlap(params: &[Param]) -> bool
-    ensures { result ≡ instances.fits_skeleton MapOverlap Int (map (λ param. param.kind) params.now) }
+    ensures { result ≡ skeletons.fits_skeleton MapOverlap Int (map (λ param. param.kind) params.now) }
 {
     match region_of(params) {
         Some((dimension, _)) => index_fits(params, dimension),
@@ -41,7 +47,7 @@ fn fits_overlap(params: &[Param]) -> bool
 
 /// Whether a function with these parameters can be a skeleton's first.
 pub(crate) fn fits_skeleton(skeleton: Skeleton, ret: Ty, params: &[Param]) -> bool
-    ensures { result ≡ instances.fits_skeleton skeleton ret (map (λ param. param.kind) params.now) }
+    ensures { result ≡ skeletons.fits_skeleton skeleton ret (map (λ param. param.kind) params.now) }
 {
     match skeleton {
         Skeleton::Reduce => is_operator(ret, params),
@@ -55,14 +61,16 @@ pub(crate) fn fits_skeleton(skeleton: Skeleton, ret: Ty, params: &[Param]) -> bo
     }
 }
 
+/// Whether the absolute value of a number is at most the count.
 fn is_up_to(number: Cell, count: usize) -> bool
     ensures { result ≡ nat_le (nat_abs number) count }
 {
     number.unsigned_abs() <= count as u64
 }
 
+/// Whether the numbers of a Map fit: how many elements it takes, at most the leading scalars.
 fn map_numbers_fit(numbers: &[Cell], params: &[Param]) -> bool
-    ensures { result ≡ instances.numbers_fit Map numbers.now (map (λ param. param.kind) params.now) }
+    ensures { result ≡ skeletons.numbers_fit Map numbers.now (map (λ param. param.kind) params.now) }
 {
     match numbers {
         [] => true,
@@ -71,8 +79,9 @@ fn map_numbers_fit(numbers: &[Cell], params: &[Param]) -> bool
     }
 }
 
+/// Whether the numbers of a MapReduce fit: how many elements it takes, at least one.
 fn map_reduce_numbers_fit(numbers: &[Cell], params: &[Param]) -> bool
-    ensures { result ≡ instances.numbers_fit MapReduce numbers.now (map (λ param. param.kind) params.now) }
+    ensures { result ≡ skeletons.numbers_fit MapReduce numbers.now (map (λ param. param.kind) params.now) }
 {
     match numbers {
         [] => leading_scalars(params) >= 1,
@@ -81,8 +90,9 @@ fn map_reduce_numbers_fit(numbers: &[Cell], params: &[Param]) -> bool
     }
 }
 
+/// Whether the numbers of a skeleton over pairs fit: 1 and 1, or none.
 fn pairs_numbers_fit(numbers: &[Cell]) -> bool
-    ensures { result ≡ instances.numbers_fit MapPairs numbers.now [] }
+    ensures { result ≡ skeletons.numbers_fit MapPairs numbers.now [] }
 {
     match numbers {
         [] => true,
@@ -93,7 +103,7 @@ fn pairs_numbers_fit(numbers: &[Cell]) -> bool
 
 /// Whether the numbers of an instance fit its first function's parameters.
 pub(crate) fn numbers_fit(skeleton: Skeleton, numbers: &[Cell], params: &[Param]) -> bool
-    ensures { result ≡ instances.numbers_fit skeleton numbers.now (map (λ param. param.kind) params.now) }
+    ensures { result ≡ skeletons.numbers_fit skeleton numbers.now (map (λ param. param.kind) params.now) }
 {
     match skeleton {
         Skeleton::Map => map_numbers_fit(numbers, params),
@@ -107,8 +117,9 @@ pub(crate) fn numbers_fit(skeleton: Skeleton, numbers: &[Cell], params: &[Param]
     }
 }
 
+/// How many elements an instance takes: the number that it gives, or all leading scalars.
 fn count_or_all(numbers: &[Cell], params: &[Param]) -> usize
-    ensures { result ≡ instances.elements_of Map numbers.now (map (λ param. param.kind) params.now) }
+    ensures { result ≡ skeletons.elements_of Map numbers.now (map (λ param. param.kind) params.now) }
 {
     match numbers {
         [] => leading_scalars(params),
@@ -118,7 +129,7 @@ fn count_or_all(numbers: &[Cell], params: &[Param]) -> usize
 
 /// How many element parameters an instance has.
 pub(crate) fn elements_of(skeleton: Skeleton, numbers: &[Cell], params: &[Param]) -> usize
-    ensures { result ≡ instances.elements_of skeleton numbers.now (map (λ param. param.kind) params.now) }
+    ensures { result ≡ skeletons.elements_of skeleton numbers.now (map (λ param. param.kind) params.now) }
 {
     match skeleton {
         Skeleton::Map => count_or_all(numbers, params),
@@ -139,7 +150,7 @@ pub(crate) fn is_second(ty: Ty, function: &Function) -> bool
     same_type(function.ret, ty) && is_operator(ty, function.params.as_slice())
 }
 
-// Adds elements of that dimension, and what stands behind them.
+/// Adds elements of that dimension, and what stands behind them.
 fn push_arguments(
     places: &mut Items<Expected>,
     dimension: Option<u8>,
@@ -154,9 +165,9 @@ fn push_arguments(
     push_further(places, count, params)
 }
 
-// The dimension of the index parameter, or else that of the first argument.
+/// The dimension of the index parameter, or else that of the first argument.
 fn common_dimension(first: Option<u8>, params: &[Param]) -> Option<u8>
-    ensures { result ≡ elim (instances.index_dimension (map (λ param. param.kind) params.now)) [ Some index ↦ Some index | None ↦ first ] }
+    ensures { result ≡ elim (parameters.index_dimension (map (λ param. param.kind) params.now)) [ Some index ↦ Some index | None ↦ first ] }
 {
     match index_dimension(params) {
         Some(index) => Some(index),
@@ -164,6 +175,7 @@ fn common_dimension(first: Option<u8>, params: &[Param]) -> Option<u8>
     }
 }
 
+/// What a Map takes: its result, its elements, and what stands behind them.
 fn map_places(
     alloc: Global,
     elements: usize,
@@ -180,6 +192,7 @@ fn map_places(
     Ok(places)
 }
 
+/// What a MapReduce takes: its elements, and what stands behind them.
 fn map_reduce_places(
     alloc: Global,
     elements: usize,
@@ -195,14 +208,16 @@ fn map_reduce_places(
     Ok(places)
 }
 
+/// What a Call takes: containers and uniform arguments.
 fn call_places(alloc: Global, function: &Function) -> Result<Items<Expected>, AllocError>
-    ensures { IfOk result (λ places. places ≡ instances.further_places 0 (names.kinds_of function.now)) }
+    ensures { IfOk result (λ places. places ≡ instances.further_places 0 (functions.kinds_of function.now)) }
 {
     let mut places = Items::new(alloc);
     push_further(&mut places, 0, function.params.as_slice())?;
     Ok(places)
 }
 
+/// What a MapOverlap takes: its result, the container that it reads around each place, and what stands behind it.
 fn overlap_places(alloc: Global, function: &Function) -> Result<Items<Expected>, AllocError>
     ensures { IfOk result (λ places. places ≡ instances.places_of (record { skeleton = MapOverlap; function = 0; elements = 0 }) None function.now) }
 {
@@ -216,14 +231,14 @@ fn overlap_places(alloc: Global, function: &Function) -> Result<Items<Expected>,
     Ok(places)
 }
 
-// A result of that dimension, two vectors of elements, and what stands behind them.
+/// A result of that dimension, two vectors of elements, and what stands behind them.
 fn pairs_places(
     alloc: Global,
     dimension: u8,
     function: &Function,
 ) -> Result<Items<Expected>, AllocError>
     ensures { IfOk result (λ places. places ≡ Container (Some dimension) function.now.ret ∷
-        instances.element_places (Some 1) 2 (names.kinds_of function.now) ++ instances.further_places 2 (names.kinds_of function.now)) }
+        instances.element_places (Some 1) 2 (functions.kinds_of function.now) ++ instances.further_places 2 (functions.kinds_of function.now)) }
 {
     let params = function.params.as_slice();
     let mut places = Items::new(alloc);
@@ -232,7 +247,7 @@ fn pairs_places(
     Ok(places)
 }
 
-// Containers of two dimensions, with elements of one type.
+/// Containers of two dimensions, with elements of one type.
 fn operator_places(
     alloc: Global,
     first: u8,
@@ -268,6 +283,7 @@ fn places_of(
     }
 }
 
+/// What a Reduce takes as an expression.
 fn whole_operand(alloc: Global, ty: Ty) -> Result<Use, AllocError>
     ensures { IfOk result (λ used. used ≡ Takes (Container None ty ∷ [])) }
 {
@@ -276,6 +292,7 @@ fn whole_operand(alloc: Global, ty: Ty) -> Result<Use, AllocError>
     Ok(Use::Takes(places))
 }
 
+/// A use that takes these arguments.
 fn taking_places(
     alloc: Global,
     made: Made,

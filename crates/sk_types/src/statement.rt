@@ -1,13 +1,14 @@
 ghost use Rattle.std.specs.Prelude.{◌≡◌, map, IfOk, OnOk};
-ghost use Rattle.sk_tree.specs.TypingFaults.{least_of};
-ghost use Rattle.sk_tree.specs.TypingStatements as walks;
+ghost use Rattle.sk_typing.specs.TypingFaults.{least_of};
+ghost use Rattle.sk_typing.specs.TypingStatements as walks;
 ghost use Rattle.sk_types.specs.Told.{seen};
 
 use crate::around::{Around, Scopes};
 use crate::least::earlier;
 use crate::simple::{assign, call, declare, declare_instance, make, poke, print, set, take};
 use crate::uses::value_fault;
-use sk_tree::{Fault, Statement, What};
+use sk_tree::{Statement, What};
+use sk_typing::Fault;
 use std::alloc::{AllocError, Global};
 
 /// The fault that is told of a statement. What it declares is in scope afterwards.

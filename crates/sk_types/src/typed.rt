@@ -1,16 +1,17 @@
 ghost use Rattle.std.specs.Prelude.{◌≡◌, IfOk, IfErr};
-ghost use Rattle.sk_tree.specs.Lexemes.{same_bytes};
-ghost use Rattle.sk_tree.specs.Typing as typing;
+ghost use Rattle.sk_names.specs.Bytes.{same_bytes};
+ghost use Rattle.sk_typing.specs.Typing as typing;
 ghost use Rattle.sk_tree.specs.declared.tree.Program.{Program as ProgramTree};
 ghost use Rattle.sk_tree.specs.contracts.tree.Program as contract;
-ghost use Rattle.sk_types.specs.Answers.{Tells};
+ghost use Rattle.sk_types.specs.Answers.{TellsLeast};
 ghost use Rattle.sk_types.specs.Numbers.{FindsAll, number_of};
 
 use crate::fault::{TypeFault, told};
 use crate::inputs::Inputs;
 use crate::numbers::{FunctionNumbers, function_numbers, number_in};
 use crate::program::program_fault;
-use sk_tree::{Declared, Name, Program};
+use sk_names::Name;
+use sk_tree::{Declared, Program};
 use sqlite_items::Items;
 use std::alloc::Global;
 use std::marker::Model;
@@ -34,6 +35,7 @@ impl Model for Typed {
 }
 
 impl Typed {
+    /// The program itself.
     pub fn program(&self) -> &Program
         ensures same { result.now ≡ self.now }
         ensures typed { typing.IsTyped self.now }
@@ -57,11 +59,11 @@ impl Typed {
     }
 }
 
-// The inputs of a program, or the fault that is told of it.
-fn judged(alloc: Global, program: &Program) -> Result<Items<Declared>, TypeFault>
+/// The inputs of a program, or the fault that is told of it.
+fn inputs_or_fault(alloc: Global, program: &Program) -> Result<Items<Declared>, TypeFault>
     ensures inputs { IfOk result (λ inputs. inputs ≡ typing.inputs_of program.now) }
     ensures typed { IfOk result (λ inputs. typing.IsTyped program.now) }
-    ensures refused { IfErr result (λ fault. Tells fault (typing.least_fault program.now)) }
+    ensures refused { IfErr result (λ fault. TellsLeast fault (typing.least_fault program.now)) }
 {
     let mut found = Inputs::new(alloc);
     match program_fault(alloc, program, &mut found)? {
@@ -74,9 +76,9 @@ fn judged(alloc: Global, program: &Program) -> Result<Items<Declared>, TypeFault
 pub fn check(alloc: Global, program: Program) -> Result<Typed, TypeFault>
     ensures same { IfOk result (λ typed. typed ≡ program) }
     ensures typed { IfOk result (λ typed. typing.IsTyped program) }
-    ensures refused { IfErr result (λ fault. Tells fault (typing.least_fault program)) }
+    ensures refused { IfErr result (λ fault. TellsLeast fault (typing.least_fault program)) }
 {
-    let inputs = judged(alloc, &program)?;
+    let inputs = inputs_or_fault(alloc, &program)?;
     let numbers = function_numbers(alloc, program.functions.as_slice())?;
     Ok(Typed {
         program,

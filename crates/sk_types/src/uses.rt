@@ -1,7 +1,7 @@
 ghost use Rattle.std.specs.Prelude.{◌≡◌, [], ◌∷◌, map, length, IfOk};
-ghost use Rattle.sk_tree.specs.TypingExpressions as expressions;
-ghost use Rattle.sk_tree.specs.TypingFaults.{least_of};
-ghost use Rattle.sk_tree.specs.TypingInstances as instances;
+ghost use Rattle.sk_typing.specs.TypingExpressions as expressions;
+ghost use Rattle.sk_typing.specs.TypingFaults.{least_of};
+ghost use Rattle.sk_typing.specs.TypingInstances as instances;
 ghost use Rattle.sk_types.specs.Told.{seen, argument_of, first_kept};
 
 use crate::argument::{Argument, first_dimension, use_fault};
@@ -9,7 +9,8 @@ use crate::around::{Around, Scopes};
 use crate::expression::{element_use, judge, judge_all};
 use crate::setting::setting_use;
 use crate::skeleton::statement_use;
-use sk_tree::{Expr, Fault, FaultKind, Known, ParamKind, Setting, Use};
+use sk_tree::{Expr, ParamKind, Setting};
+use sk_typing::{Fault, FaultKind, Known, Use};
 use sqlite_items::Items;
 use std::alloc::{AllocError, Global};
 
@@ -97,7 +98,7 @@ pub(crate) fn set_use(
     }
 }
 
-// What is kept of one expression, as a list.
+/// What is kept of one expression, as a list.
 fn judge_single(
     alloc: Global,
     around: &Around,

@@ -7,13 +7,13 @@ use Rattle.std.proofs.lemmas.Option.{get_or_from_slice_get, slice_get_within}
 use Rattle.sk_base.specs.declared.number.Ty.{Ty}
 use Rattle.sk_base.specs.declared.number.Ty.TheVariants.{Int}
 use Rattle.sk_base.specs.Arithmetic.{InRange}
-use Rattle.sk_tree.specs.Evaluation.{Argument, Value, kind_type}
+use Rattle.sk_meaning.specs.Evaluation.{Argument, Value, kind_type}
 use Rattle.sk_tree.specs.declared.tree.ParamKind.{ParamKind}
 use Rattle.sk_tree.specs.declared.tree.ParamKind.TheVariants.{Scalar, Index, Proxy, Region}
 use Rattle.sk_isa.specs.Instances.{arguments_from, element_kinds, element_place, uniform_types}
 use Rattle.sk_isa.specs.Kernels.{AreOfTypes, Given, Source, given_by, operand_type}
 use Rattle.sk_isa.specs.Soundness.{SuitParams, is_scalar}
-use Rattle.sk_isa.proofs.TypedLists.{typed_at}
+use Rattle.sk_isa_laws.proofs.TypedLists.{typed_at}
 use Rattle.sk_vm.specs.Arguments.{argument_at, CanPass, Passes}
 
 -- the kinds of elements and the types of uniform arguments, by the parameter

@@ -5,7 +5,7 @@ use Rattle.std.proofs.lemmas.Option.{slice_get-get_or}
 use Rattle.std.proofs.lemmas.Bool.{cond-true, lt-ltb}
 use Rattle.sk_base.specs.declared.number.Op.{Op}
 use Rattle.sk_base.specs.declared.number.Ty.{Ty}
-use Rattle.sk_tree.specs.Expressions.{holds}
+use Rattle.sk_meaning.specs.Expressions.{holds}
 use Rattle.sk_isa.specs.Coded.{Point, Routine, Next, Goes, Stuck, next_of, going, with_one, stored}
 use Rattle.sk_isa.specs.declared.code.Instr.{Instr}
 use Rattle.sk_isa.specs.declared.code.Instr.TheVariants.{Pop, Load, Store, Zero, Binary, Call}

@@ -6,7 +6,7 @@ use Rattle.std.proofs.lemmas.List.{get_or-drop, length-drop, length-take-le, rev
 use Rattle.std.proofs.Math.ListN.{get_or-append}
 use Rattle.std.proofs.Math.Seq.{drop-append_seam, get_or-append_seam, take-append_seam, take-suc}
 use Rattle.sk_base.specs.declared.number.Ty.{Ty}
-use Rattle.sk_tree.specs.Evaluation.{Value}
+use Rattle.sk_meaning.specs.Evaluation.{Value}
 use Rattle.sk_tree.specs.declared.tree.ParamKind.{ParamKind}
 use Rattle.sk_isa.specs.declared.code.Code.{Code}
 use Rattle.sk_isa.specs.declared.code.Instr.TheVariants.{Call}
@@ -16,8 +16,8 @@ use Rattle.sk_isa.specs.Coded.{Callee, Point, Routine, Goes, Stuck, next_of, ret
 use Rattle.sk_isa.specs.Instances.{signature_at}
 use Rattle.sk_isa.specs.Kernels.{AreOfTypes}
 use Rattle.sk_isa.specs.Soundness.{AreSlots, IsSound, Named, SuitParams, left_by, left_by_call, left_if, serve_for}
-use Rattle.sk_isa.proofs.Callees.{functions_have_values, function_of-code, there}
-use Rattle.sk_isa.proofs.TypedLists.{typed-length, typed-reverse, typed-take, typed_arguments}
+use Rattle.sk_isa_laws.proofs.Callees.{functions_have_values, function_of-code, there}
+use Rattle.sk_isa_laws.proofs.TypedLists.{typed-length, typed-reverse, typed-take, typed_arguments}
 use Rattle.sk_vm.specs.declared.stack.Stand.{Stand}
 use Rattle.sk_vm.specs.Rooms.{Begins, depth_below, given_to, slots_at, slots_below}
 use Rattle.sk_vm.specs.Points.{values_in, point_at}

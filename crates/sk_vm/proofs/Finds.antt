@@ -7,17 +7,17 @@ use Rattle.std.proofs.lemmas.Option.{slice_get_within}
 use Rattle.sk_base.specs.declared.number.Op.{Op}
 use Rattle.sk_base.specs.declared.number.Ty.{Ty}
 use Rattle.sk_base.specs.Arithmetic.{InRange, is_shift}
-use Rattle.sk_tree.specs.Evaluation.{kind_type}
-use Rattle.sk_tree.specs.TypingNames.{is_field}
+use Rattle.sk_meaning.specs.Evaluation.{kind_type}
+use Rattle.sk_tree.specs.Parameters.{is_field}
 use Rattle.sk_tree.specs.declared.tree.ParamKind.{ParamKind}
 use Rattle.sk_tree.specs.declared.tree.ParamKind.TheVariants.{Scalar, Index, Proxy, Region as RegionKind}
 use Rattle.sk_isa.specs.declared.code.Instr.{Instr}
 use Rattle.sk_isa.specs.declared.code.Instr.TheVariants.{Push, Pop, Load, Store, Field, Item, Region, Neg, Inv, Not, Wrap, Binary, Jump, Zero, Turn, Call, Ret}
 use Rattle.sk_isa.specs.Kernels.{AreOfTypes}
 use Rattle.sk_isa.specs.Soundness.{Left, Named, has_field, is_number, is_scalar, item_type, leads_to, left_by, left_if, left_with, number_type, of_many, of_one, of_two, region_type, scalar_in, serves, left_by_ret}
-use Rattle.sk_isa.proofs.Steps.{left_if_so, left_with_so, scalar_so, item_so, region_so}
-use Rattle.sk_isa.proofs.TypedLists.{typed-length}
-use Rattle.sk_isa.proofs.Values.{served}
+use Rattle.sk_isa_laws.proofs.Steps.{left_if_so, left_with_so, scalar_so, item_so, region_so}
+use Rattle.sk_isa_laws.proofs.TypedLists.{typed-length}
+use Rattle.sk_isa_laws.proofs.Values.{served}
 use Rattle.sk_vm.specs.Needs.{Needs}
 use Rattle.sk_vm.specs.Points.{values_in}
 use Rattle.sk_vm.proofs.Values.{length-values_in, values_in-last}

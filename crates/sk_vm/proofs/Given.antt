@@ -4,15 +4,15 @@ use Rattle.std.specs.List.{list_all}
 use Rattle.std.proofs.lemmas.List.{length-take-le}
 use Rattle.sk_base.specs.declared.number.Trap.{Trap}
 use Rattle.sk_base.specs.Arithmetic.{InRange}
-use Rattle.sk_tree.specs.Evaluation.{Argument, Value, turn_limit, value_only}
+use Rattle.sk_meaning.specs.Evaluation.{Argument, Value, turn_limit, value_only}
 use Rattle.sk_isa.specs.declared.object.Object.{Object}
 use Rattle.sk_isa.specs.declared.object.Signature.{Signature}
 use Rattle.sk_isa.specs.Coded.{function_of}
 use Rattle.sk_isa.specs.Instances.{Reading, function_meaning, invoked, signature_at}
 use Rattle.sk_isa.specs.Kernels.{Agree, Source, Suits, given_by}
 use Rattle.sk_isa.specs.Soundness.{IsSound, SuitParams, TakesScalars, is_scalar}
-use Rattle.sk_isa.specs.Steps.{IsGiven}
-use Rattle.sk_isa.proofs.Callees.{functions_have_values, there}
+use Rattle.sk_isa_laws.specs.Steps.{IsGiven}
+use Rattle.sk_isa_laws.proofs.Callees.{functions_have_values, there}
 use Rattle.sk_vm.specs.Arguments.{CanPass, Passes}
 use Rattle.sk_vm.specs.Rooms.{Begins, given_to, slots_at}
 use Rattle.sk_vm.proofs.Arguments.{can_pass, suited, as_defined}

@@ -7,19 +7,19 @@ use Rattle.std.proofs.lemmas.Option.{get_or_from_slice_get, slice_get_within}
 use Rattle.sk_base.specs.declared.number.Ty.{Ty}
 use Rattle.sk_base.specs.declared.number.Ty.TheVariants.{Int, Long}
 use Rattle.sk_base.specs.Arithmetic.{InRange}
-use Rattle.sk_tree.specs.Evaluation.{Value, kind_type}
+use Rattle.sk_meaning.specs.Evaluation.{Value, kind_type}
 use Rattle.sk_tree.specs.declared.tree.ParamKind.{ParamKind}
 use Rattle.sk_tree.specs.declared.tree.ParamKind.TheVariants.{Scalar, Index, Proxy, Region}
 use Rattle.sk_tree.specs.declared.tree.Skeleton.{Skeleton}
 use Rattle.sk_tree.specs.declared.tree.Skeleton.TheVariants as skeleton
-use Rattle.sk_tree.specs.TypingInstances.{function_count, is_operator}
-use Rattle.sk_tree.specs.TypingNames.{same_type}
+use Rattle.sk_tree.specs.Skeletons.{function_count, is_operator}
+use Rattle.sk_tree.specs.Parameters.{same_type}
 use Rattle.sk_isa.specs.declared.object.Object.{Object}
 use Rattle.sk_isa.specs.declared.object.Plan.{Plan}
 use Rattle.sk_isa.specs.Instances.{arguments_from, element_place, function_at, instance_meaning, invoked, is_marked, operator_place, operator_type, reading_of, signature_at, uniform_types}
 use Rattle.sk_isa.specs.Kernels.{Given, NeverTraps, NeverTrapsJoining}
 use Rattle.sk_isa.specs.Soundness.{IsSound, IsSoundPlan, SuitParams, TakesScalars, is_scalar}
-use Rattle.sk_isa.proofs.TypedLists.{typed_at}
+use Rattle.sk_isa_laws.proofs.TypedLists.{typed_at}
 use Rattle.sk_vm.specs.Instantiated.{IsLawful, RunsOperator}
 use Rattle.sk_vm.specs.Frames.{Framed}
 use Rattle.sk_vm.proofs.Arguments.{element_kind, later, none_plus, one_more, plus_none, same_test, uniform_type}

@@ -5,7 +5,7 @@ use Rattle.std.specs.Cmp.{first_so, second_so}
 use Rattle.std.specs.Cmp.Lexicographic.{pointwise}
 use Rattle.std.proofs.lemmas.Option.{get_or_from_slice_get, same_Some, slice_get_within}
 use Rattle.sk_base.specs.declared.number.Ty.{Ty}
-use Rattle.sk_tree.specs.Evaluation.{Value}
+use Rattle.sk_meaning.specs.Evaluation.{Value}
 use Rattle.sk_tree.specs.declared.tree.ParamKind.{ParamKind}
 use Rattle.sk_isa.specs.declared.code.Code.{Code}
 use Rattle.sk_isa.specs.declared.code.Instr.{Instr}
@@ -15,7 +15,7 @@ use Rattle.sk_isa.specs.declared.object.Signature.{Signature}
 use Rattle.sk_isa.specs.Coded.{Next, function_of, next_of, returning}
 use Rattle.sk_isa.specs.Instances.{signature_at}
 use Rattle.sk_isa.specs.Soundness.{AreSlots, IsFineAt, IsSound, Named, SuitParams, TakesScalars, Types, is_scalar, leads_to, left_by, serves}
-use Rattle.sk_isa.proofs.TypedLists.{typed-length}
+use Rattle.sk_isa_laws.proofs.TypedLists.{typed-length}
 use Rattle.sk_vm.specs.declared.stack.Stand.{Stand}
 use Rattle.sk_vm.specs.Needs.{Needs}
 use Rattle.sk_vm.specs.Points.{values_in, point_at}

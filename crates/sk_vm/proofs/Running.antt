@@ -2,16 +2,16 @@
 use Rattle.std.proofs.Common.{◌≡◌, ℕ, suc, ◌+◌, ◌*◌, ◌^◌, ◌<◌, List, length, map, ℤ, Option, Some, Result, IsSomeAnd, slice_get, sym, ap, subst, ◌∙◌}
 use Rattle.sk_base.specs.declared.number.Trap.{Trap}
 use Rattle.sk_base.specs.declared.number.Ty.{Ty}
-use Rattle.sk_tree.specs.Evaluation.{Argument, Value}
+use Rattle.sk_meaning.specs.Evaluation.{Argument, Value}
 use Rattle.sk_isa.specs.declared.code.Code.{Code}
 use Rattle.sk_isa.specs.declared.code.Instr.{Instr}
 use Rattle.sk_isa.specs.declared.object.Object.{Object}
 use Rattle.sk_isa.specs.declared.object.Signature.{Signature}
 use Rattle.sk_isa.specs.Coded.{Point, Routine, Next, Goes, Ends, Ended, followed, next_of, outcome_of, routine_of, callees_below, function_of}
-use Rattle.sk_isa.specs.Ranks.{rank}
+use Rattle.sk_isa_laws.specs.Ranks.{rank}
 use Rattle.sk_isa.specs.Soundness.{IsSoundCode, SuitParams}
-use Rattle.sk_isa.specs.Steps.{IsFineNext, IsFinePoint, IsFineStep}
-use Rattle.sk_isa.proofs.Runs.{measure_falls, outcome-next}
+use Rattle.sk_isa_laws.specs.Steps.{IsFineNext, IsFinePoint, IsFineStep}
+use Rattle.sk_isa_laws.proofs.Runs.{measure_falls, outcome-next}
 use Rattle.sk_vm.specs.declared.stack.Stand.{Stand}
 use Rattle.sk_vm.specs.Points.{point_at}
 use Rattle.sk_vm.specs.Rooms.{given_to}

@@ -1,7 +1,7 @@
 -- The start of a function's run.
 use Rattle.std.proofs.Common.{◌≡◌, ℕ, suc, ◌-◌, ◌<◌, List, [], ◌∷◌, ◌++◌, length, map, replicate, ℤ, pos, Option, Some, None, slice_get, refl, sym, ap, subst, ◌∙◌, arith}
 use Rattle.std.proofs.lemmas.List.{take-append-drop}
-use Rattle.sk_tree.specs.Evaluation.{Value, number_in}
+use Rattle.sk_meaning.specs.Evaluation.{Value, number_in}
 use Rattle.sk_isa.specs.declared.code.Code.{Code}
 use Rattle.sk_isa.specs.declared.code.Instr.{Instr}
 use Rattle.sk_isa.specs.declared.object.Object.{Object}
@@ -9,10 +9,10 @@ use Rattle.sk_isa.specs.declared.object.Signature.{Signature}
 use Rattle.sk_isa.specs.Coded.{Point, outcome_of, start_of}
 use Rattle.sk_isa.specs.Instances.{no_signature, signature_at}
 use Rattle.sk_isa.specs.Soundness.{IsSound, SuitParams}
-use Rattle.sk_isa.specs.Steps.{IsFinePoint}
-use Rattle.sk_isa.proofs.Callees.{are_ready, functions_have_values, there}
-use Rattle.sk_isa.proofs.Runs.{start_is_fine, steps_are_fine}
-use Rattle.sk_isa.proofs.TypedLists.{suited-length}
+use Rattle.sk_isa_laws.specs.Steps.{IsFinePoint}
+use Rattle.sk_isa_laws.proofs.Callees.{are_ready, functions_have_values, there}
+use Rattle.sk_isa_laws.proofs.Runs.{start_is_fine, steps_are_fine}
+use Rattle.sk_isa_laws.proofs.TypedLists.{suited-length}
 use Rattle.sk_vm.specs.Points.{values_in, point_at}
 use Rattle.sk_vm.specs.Rooms.{Begins, given_to, instrs_at, slots_at}
 use Rattle.sk_vm.proofs.Running.{Running, arguments_of, routine_at}

@@ -3,10 +3,11 @@ ghost use Rattle.sk_base.specs.Arithmetic.{InRange};
 ghost use Rattle.sk_isa.specs.Instances.{function_meaning, invoked, signature_at};
 ghost use Rattle.sk_isa.specs.Kernels.{Suits, Agree, given_by};
 ghost use Rattle.sk_isa.specs.Soundness.{IsSound, SuitParams, TakesScalars};
-ghost use Rattle.sk_tree.specs.Evaluation.{Value};
+ghost use Rattle.sk_meaning.specs.Evaluation.{Value};
 ghost use Rattle.sk_vm.specs.Frames.{HasRoom, IsUnread};
 ghost use Rattle.sk_vm.specs.Rooms.{depth_below, slots_below};
 
+use crate::entry::Entry;
 use crate::start::{Reading, start, start_with};
 use sk_base::{Cell, Trap};
 use sk_isa::{At, Code, Data, Object};
@@ -83,9 +84,12 @@ impl Frame {
             elements: self.elements,
             pairs: self.pairs,
         };
-        start(
+        let entry = Entry {
             object,
-            self.function,
+            function: self.function,
+        };
+        start(
+            &entry,
             reading,
             source,
             at,
@@ -104,14 +108,11 @@ impl Frame {
         ensures range { IfOk result (InRange (signature_at object.now self.old.function).ret) }
         ensures same { self.new ≡ self.old }
     {
-        start_with(
+        let entry = Entry {
             object,
-            self.function,
-            a,
-            b,
-            &mut self.stack,
-            &mut self.slots,
-        )
+            function: self.function,
+        };
+        start_with(&entry, a, b, &mut self.stack, &mut self.slots)
     }
 }
 

@@ -2,6 +2,7 @@
 //!
 //! - `coded`: an instance as a kernel.
 //! - `frame`: room to run one function, made once and used for every run.
+//! - `entry`: a function that may be run.
 //! - `start`: a function with its arguments.
 //! - `run`: the run of a function from its first address to its end.
 //! - `step`: what one instruction does.
@@ -12,6 +13,7 @@
 #![tactic(auto)]
 
 mod coded;
+mod entry;
 mod frame;
 mod parts;
 mod run;

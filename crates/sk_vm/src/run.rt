@@ -1,38 +1,34 @@
 ghost use Rattle.std.specs.Prelude.{◌≡◌, ℕ, ℤ, ◌<◌, ◌≤◌, ◌+◌, ◌-◌, ◌^◌, suc, pos, List, ◌∷◌, ◌++◌, length, take, drop, map, reverse, replicate};
 ghost use Rattle.sk_isa.specs.Coded.{function_of, returning};
 ghost use Rattle.sk_isa.specs.Instances.{signature_at};
-ghost use Rattle.sk_isa.specs.Soundness.{IsSound, TakesScalars, SuitParams};
-ghost use Rattle.sk_tree.specs.Evaluation.{Value};
+ghost use Rattle.sk_isa.specs.Soundness.{SuitParams};
+ghost use Rattle.sk_meaning.specs.Evaluation.{Value};
 ghost use Rattle.sk_vm.specs.Rooms.{depth_below, slots_below, given_to, Begins};
 ghost use Rattle.sk_vm.specs.Points.{values_in, point_at, led_to};
 
-use crate::parts::{instr_at, instrs, param_count, slot_count};
+use crate::entry::Entry;
+use crate::parts::instr_at;
 use crate::stack::Stand;
 use crate::step::{Lead, step};
 use sk_base::{Cell, Trap};
-use sk_isa::Object;
 
 /// Runs a function whose arguments stand in its slots, and gives its value beside the turns that are then left.
 ///
 /// The values of the calls below stand in `stack` and in `rest`.
 #[cycle(run)]
 pub fn run_code(
-    object: &Object,
-    function: u32,
+    entry: &Entry<'_>,
     stack: &mut [Cell],
     slots: &mut [Cell],
     rest: &mut [Cell],
     turns: u32,
 ) -> Result<(Cell, u32), Trap>
-    requires sound { IsSound object.now }
-    requires scalars { TakesScalars object.now }
-    requires there { function < length object.now.functions }
-    requires begins { Begins object.now function slots.old }
-    requires depth { depth_below object.now.functions (suc function) ≤ length stack.old }
-    requires room { slots_below object.now.functions function ≤ length rest.old }
-    ensures { result ≡ function_of object.now function (map Value (given_to object.now function slots.old)) turns }
+    requires begins { Begins entry.now.object entry.now.function slots.old }
+    requires depth { depth_below entry.now.object.functions (suc entry.now.function) ≤ length stack.old }
+    requires room { slots_below entry.now.object.functions entry.now.function ≤ length rest.old }
+    ensures { result ≡ function_of entry.now.object entry.now.function (map Value (given_to entry.now.object entry.now.function slots.old)) turns }
 {
-    let instrs = instrs(object, function);
+    let instrs = entry.instrs();
     let mut stand = Stand {
         at: 0,
         top: 0,
@@ -43,7 +39,7 @@ pub fn run_code(
             Lead::Goes(next) => stand = next,
             Lead::Ends(value, left) => return Ok((value, left)),
             Lead::Traps(trap) => return Err(trap),
-            Lead::Calls(callee) => match called(object, callee, stand, stack, rest) {
+            Lead::Calls(callee) => match called(&entry.of(callee), stand, stack, rest) {
                 Ok(next) => stand = next,
                 Err(trap) => return Err(trap),
             },
@@ -54,33 +50,29 @@ pub fn run_code(
 /// Calls a function with the topmost values, and puts its value in their place.
 #[cycle(run)]
 fn called(
-    object: &Object,
-    callee: u32,
+    callee: &Entry<'_>,
     stand: Stand,
     stack: &mut [Cell],
     rest: &mut [Cell],
 ) -> Result<Stand, Trap>
-    requires sound { IsSound object.now }
-    requires scalars { TakesScalars object.now }
-    requires there { callee < length object.now.functions }
     requires address { stand.at + 1 < 2 ^ 64 }
     requires inside { stand.top ≤ length stack.old }
-    requires takes { length (signature_at object.now callee).params ≤ stand.top }
-    requires suited { SuitParams (signature_at object.now callee).params (map Value (reverse (take (length (signature_at object.now callee).params) (values_in stack.old stand.top)))) }
-    requires value { stand.top < length stack.old + length (signature_at object.now callee).params }
-    requires depth { depth_below object.now.functions (suc callee) + stand.top ≤ length stack.old + length (signature_at object.now callee).params }
-    requires room { slots_below object.now.functions (suc callee) ≤ length rest.old }
-    ensures { let takes = length (signature_at object.now callee).params in
+    requires takes { length (signature_at callee.now.object callee.now.function).params ≤ stand.top }
+    requires suited { SuitParams (signature_at callee.now.object callee.now.function).params (map Value (reverse (take (length (signature_at callee.now.object callee.now.function).params) (values_in stack.old stand.top)))) }
+    requires value { stand.top < length stack.old + length (signature_at callee.now.object callee.now.function).params }
+    requires depth { depth_below callee.now.object.functions (suc callee.now.function) + stand.top ≤ length stack.old + length (signature_at callee.now.object callee.now.function).params }
+    requires room { slots_below callee.now.object.functions (suc callee.now.function) ≤ length rest.old }
+    ensures { let takes = length (signature_at callee.now.object callee.now.function).params in
         let values = values_in stack.old stand.top in
         (slots : List ℤ) → led_to result stack.new slots
-        ≡ returning (point_at stand stack.old slots) (drop takes values) (function_of object.now callee (map Value (reverse (take takes values))) stand.turns) }
+        ≡ returning (point_at stand stack.old slots) (drop takes values) (function_of callee.now.object callee.now.function (map Value (reverse (take takes values))) stand.turns) }
 {
-    let takes = param_count(object, callee);
+    let takes = callee.param_count();
     let base = stand.top - takes;
-    let (slots, below) = rest.split_at_mut(slot_count(object, callee));
+    let (slots, below) = rest.split_at_mut(callee.slot_count());
     let (_, free) = stack.split_at_mut(base);
     enter(&free[..takes], slots);
-    match run_code(object, callee, free, slots, below, stand.turns) {
+    match run_code(callee, free, slots, below, stand.turns) {
         Ok((value, turns)) => {
             free[0] = value;
             Ok(Stand {

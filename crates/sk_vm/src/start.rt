@@ -2,15 +2,15 @@ ghost use Rattle.std.specs.Prelude.{◌≡◌, ℕ, ℤ, ◌<◌, ◌≤◌, ◌
 ghost use Rattle.sk_base.specs.Arithmetic.{InRange};
 ghost use Rattle.sk_isa.specs.Instances.{function_meaning, invoked, signature_at};
 ghost use Rattle.sk_isa.specs.Kernels.{Suits, Agree, given_by};
-ghost use Rattle.sk_isa.specs.Soundness.{IsSound, SuitParams, TakesScalars};
-ghost use Rattle.sk_tree.specs.Evaluation.{Value};
+ghost use Rattle.sk_isa.specs.Soundness.{SuitParams};
+ghost use Rattle.sk_meaning.specs.Evaluation.{Value};
 ghost use Rattle.sk_vm.specs.Arguments.{argument_at, Passes, CanPass};
 ghost use Rattle.sk_vm.specs.Rooms.{depth_below, slots_below};
 
-use crate::parts::{param_count, slot_count};
+use crate::entry::Entry;
 use crate::run::{clear, enter, run_code};
 use sk_base::{Cell, Trap};
-use sk_isa::{At, Data, Object};
+use sk_isa::{At, Data};
 
 /// How a function reads its parameters: so many are elements, and the second of two is read at the pair.
 #[derive(Clone, Copy)]
@@ -24,28 +24,24 @@ pub const TURN_LIMIT: u32 = 65536;
 
 /// Reads the arguments of a function and runs it.
 pub fn start<D: Data>(
-    object: &Object,
-    function: u32,
+    entry: &Entry<'_>,
     reading: Reading,
     source: &D,
     at: At,
     stack: &mut [Cell],
     slots: &mut [Cell],
 ) -> Result<Cell, Trap>
-    requires sound { IsSound object.now }
-    requires scalars { TakesScalars object.now }
-    requires there { function < length object.now.functions }
-    requires depth { depth_below object.now.functions (suc function) ≤ length stack.old }
-    requires room { slots_below object.now.functions (suc function) ≤ length slots.old }
-    requires suits { Suits (function_meaning object.now function (record { elements = reading.elements; pairs = reading.pairs })) (D.means source.now) at.place at.pair }
+    requires depth { depth_below entry.now.object.functions (suc entry.now.function) ≤ length stack.old }
+    requires room { slots_below entry.now.object.functions (suc entry.now.function) ≤ length slots.old }
+    requires suits { Suits (function_meaning entry.now.object entry.now.function (record { elements = reading.elements; pairs = reading.pairs })) (D.means source.now) at.place at.pair }
     ensures value { (cells : ℕ → ℕ → ℤ)
-        → Agree (function_meaning object.now function (record { elements = reading.elements; pairs = reading.pairs })) (D.means source.now) at.place at.pair cells
-        → result ≡ (function_meaning object.now function (record { elements = reading.elements; pairs = reading.pairs })).value (given_by (D.means source.now) cells) at.place at.pair }
-    ensures range { IfOk result (InRange (signature_at object.now function).ret) }
+        → Agree (function_meaning entry.now.object entry.now.function (record { elements = reading.elements; pairs = reading.pairs })) (D.means source.now) at.place at.pair cells
+        → result ≡ (function_meaning entry.now.object entry.now.function (record { elements = reading.elements; pairs = reading.pairs })).value (given_by (D.means source.now) cells) at.place at.pair }
+    ensures range { IfOk result (InRange (signature_at entry.now.object entry.now.function).ret) }
 {
-    let (own, rest) = slots.split_at_mut(slot_count(object, function));
-    read(source, reading, at, param_count(object, function), own);
-    match run_code(object, function, stack, own, rest, TURN_LIMIT) {
+    let (own, rest) = slots.split_at_mut(entry.slot_count());
+    read(source, reading, at, entry.param_count(), own);
+    match run_code(entry, stack, own, rest, TURN_LIMIT) {
         Ok((value, _)) => Ok(value),
         Err(trap) => Err(trap),
     }
@@ -53,25 +49,21 @@ pub fn start<D: Data>(
 
 /// Runs a function on two numbers.
 pub fn start_with(
-    object: &Object,
-    function: u32,
+    entry: &Entry<'_>,
     a: Cell,
     b: Cell,
     stack: &mut [Cell],
     slots: &mut [Cell],
 ) -> Result<Cell, Trap>
-    requires sound { IsSound object.now }
-    requires scalars { TakesScalars object.now }
-    requires there { function < length object.now.functions }
-    requires depth { depth_below object.now.functions (suc function) ≤ length stack.old }
-    requires room { slots_below object.now.functions (suc function) ≤ length slots.old }
-    requires suits { SuitParams (signature_at object.now function).params (Value a ∷ Value b ∷ []) }
-    ensures value { result ≡ invoked object.now function (Value a ∷ Value b ∷ []) }
-    ensures range { IfOk result (InRange (signature_at object.now function).ret) }
+    requires depth { depth_below entry.now.object.functions (suc entry.now.function) ≤ length stack.old }
+    requires room { slots_below entry.now.object.functions (suc entry.now.function) ≤ length slots.old }
+    requires suits { SuitParams (signature_at entry.now.object entry.now.function).params (Value a ∷ Value b ∷ []) }
+    ensures value { result ≡ invoked entry.now.object entry.now.function (Value a ∷ Value b ∷ []) }
+    ensures range { IfOk result (InRange (signature_at entry.now.object entry.now.function).ret) }
 {
-    let (own, rest) = slots.split_at_mut(slot_count(object, function));
+    let (own, rest) = slots.split_at_mut(entry.slot_count());
     enter(&[a, b], own);
-    match run_code(object, function, stack, own, rest, TURN_LIMIT) {
+    match run_code(entry, stack, own, rest, TURN_LIMIT) {
         Ok((value, _)) => Ok(value),
         Err(trap) => Err(trap),
     }
@@ -90,6 +82,7 @@ fn read<D: Data>(source: &D, reading: Reading, at: At, count: usize, slots: &mut
     clear(others);
 }
 
+/// Gives each slot the argument of its number.
 fn pass<D: Data>(source: &D, reading: Reading, at: At, slots: &mut [Cell])
     requires few { length slots.old ≤ 64 }
     requires there { CanPass (D.means source.now) reading.elements reading.pairs at.place at.pair (length slots.old) }
@@ -100,6 +93,7 @@ fn pass<D: Data>(source: &D, reading: Reading, at: At, slots: &mut [Cell])
     }
 }
 
+/// The argument of a number: an element, or a uniform argument behind the elements.
 #[inline]
 fn argument<D: Data>(source: &D, reading: Reading, at: At, k: u32) -> Cell
     requires { IsSome (argument_at (D.means source.now) reading.elements reading.pairs at.place at.pair k) }

@@ -1,6 +1,6 @@
 ghost use Rattle.std.specs.Prelude.{◌≡◌, ℕ, ℤ, if◌then◌else◌, ◌<◌, ◌≤◌, ◌+◌, ◌-◌, ◌^◌, suc, pos, neg_ℤ, false, List, ◌∷◌, length, slice_set, slice_index_or};
 ghost use Rattle.sk_base.specs.Arithmetic.{InRange, is_shift, wrapped};
-ghost use Rattle.sk_tree.specs.Expressions.{holds};
+ghost use Rattle.sk_meaning.specs.Expressions.{holds};
 ghost use Rattle.sk_vm.specs.Needs.{Needs};
 ghost use Rattle.sk_vm.specs.Points.{values_in, point_at, LeadsTo, KeepsForCall, Combines};
 
@@ -63,6 +63,7 @@ pub fn step(instr: &Instr, stand: Stand, stack: &mut [Cell], slots: &mut [Cell])
     }
 }
 
+/// The negated value, wrapped to its type.
 #[inline]
 fn negated(ty: Ty, value: Cell) -> Cell
     ensures { result ≡ wrapped ty (neg_ℤ value) }
@@ -70,6 +71,7 @@ fn negated(ty: Ty, value: Cell) -> Cell
     convert(ty, value.wrapping_neg())
 }
 
+/// One more value on the stack.
 #[inline]
 fn pushed(value: Cell, stand: Stand, stack: &mut [Cell]) -> Lead
     requires address { stand.at + 1 < 2 ^ 64 }
@@ -81,6 +83,7 @@ fn pushed(value: Cell, stand: Stand, stack: &mut [Cell]) -> Lead
     Lead::Goes(stand.past(stand.top + 1))
 }
 
+/// The topmost value goes into a slot.
 #[inline]
 fn stored(slot: u32, stand: Stand, stack: &[Cell], slots: &mut [Cell]) -> Lead
     requires address { stand.at + 1 < 2 ^ 64 }
@@ -94,6 +97,7 @@ fn stored(slot: u32, stand: Stand, stack: &[Cell], slots: &mut [Cell]) -> Lead
     Lead::Goes(stand.past(stand.top - 1))
 }
 
+/// Another value in place of the topmost one.
 #[inline]
 fn replaced(value: Cell, stand: Stand, stack: &mut [Cell]) -> Lead
     requires address { stand.at + 1 < 2 ^ 64 }
@@ -106,6 +110,7 @@ fn replaced(value: Cell, stand: Stand, stack: &mut [Cell]) -> Lead
     Lead::Goes(stand.past(stand.top))
 }
 
+/// An operator's value in place of its two operands, or its trap.
 #[inline]
 fn combined(op: Op, ty: Ty, stand: Stand, stack: &mut [Cell]) -> Lead
     requires address { stand.at + 1 < 2 ^ 64 }
@@ -124,6 +129,7 @@ fn combined(op: Op, ty: Ty, stand: Stand, stack: &mut [Cell]) -> Lead
     }
 }
 
+/// The topmost value goes, and where it is 0 the run goes on elsewhere.
 #[inline]
 fn tested(to: u32, stand: Stand, stack: &[Cell]) -> Lead
     requires address { stand.at + 1 < 2 ^ 64 }
@@ -144,6 +150,7 @@ fn tested(to: u32, stand: Stand, stack: &[Cell]) -> Lead
     })
 }
 
+/// One turn less, or the trap where none is left.
 #[inline]
 fn turned(stand: Stand) -> Lead
     requires address { stand.at + 1 < 2 ^ 64 }

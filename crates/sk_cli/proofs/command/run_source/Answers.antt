@@ -1,6 +1,6 @@
 -- A source that was read is answered as its run.
 use Rattle.std.proofs.Common.{rules, [], Err, refl, ap, subst, sym, inl, inr, codes}
-use Rattle.sk_parser.specs.FirstForm.{IsFirst}
+use Rattle.sk_first.specs.FirstForm.{IsFirst}
 use Rattle.sk_cli.specs.Answer.{Answer, NoProgram, Read, Gives, Told, answer_of}
 use Rattle.sk_cli.specs.FirstProgram.{IsFirstProgram}
 use Rattle.sk_cli.proofs.RanLemmas.{IsFirstProgram-first, answer-first}

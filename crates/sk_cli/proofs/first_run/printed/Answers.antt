@@ -2,13 +2,13 @@
 use Rattle.std.proofs.Common.{ap, sym, subst, ◌∙◌, ◌≡◌, ℕ, pos, Option, Some, List, [], ◌∷◌, ◌++◌, slice_get}
 use Rattle.std.specs.Fmt.{signed_decimal}
 use Rattle.std.specs.Prelude.{unwrap_or, IfOk}
-use Rattle.sk_parser.specs.FirstForm.{Holes, AreFine, first_tree}
+use Rattle.sk_first.specs.FirstForm.{Holes, AreFine, first_tree}
 use Rattle.sk_tree.specs.declared.tree.Program.{Program}
-use Rattle.sk_tree.specs.Eager.{eager_of, EagerRun}
-use Rattle.sk_codegen.specs.Means.{MeansSource}
-use Rattle.sk_codegen.specs.Plain.{IsPlain}
+use Rattle.sk_eager.specs.Eager.{eager_of, EagerRun}
+use Rattle.sk_plain.specs.Means.{MeansSource}
+use Rattle.sk_plain.specs.Plain.{IsPlain}
 use Rattle.sk_isa.specs.Instances.{instance_meaning}
-use Rattle.sk_isa.specs.Plans.{functions_object}
+use Rattle.sk_scheme.specs.Plans.{functions_object}
 use Rattle.sk_isa.specs.declared.object.Object.{Object}
 use Rattle.sk_isa.specs.declared.object.Plan.{Plan}
 use Rattle.sk_cli.specs.Answer.{statement_limit}

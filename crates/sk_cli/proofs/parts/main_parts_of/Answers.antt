@@ -3,7 +3,7 @@ use Rattle.std.proofs.Common.{◌≡◌, ℤ, pos, Some, Option, List, ◌∙◌
 use Rattle.std.proofs.lemmas.Int.{to_z-of_z}
 use Rattle.std.specs.Int.{w64}
 use Rattle.std.specs.Prelude.{unwrap_or, FitsSigned}
-use Rattle.sk_parser.specs.FirstForm.{first_main}
+use Rattle.sk_first.specs.FirstForm.{first_main}
 use Rattle.sk_tree.specs.declared.tree.Function.{Function}
 use Rattle.sk_tree.specs.declared.tree.Statement.{Statement}
 use Rattle.sk_cli.specs.declared.parts.Parts.{Parts}

@@ -1,6 +1,6 @@
 -- The tree has the function, and then main.
 use Rattle.std.proofs.Common.{◌≡◌, ◌∙◌, ap, List, slice_index_or}
-use Rattle.sk_parser.specs.FirstForm.{first_main, first_tree}
+use Rattle.sk_first.specs.FirstForm.{first_main, first_tree}
 use Rattle.sk_tree.specs.declared.tree.Function.{Function}
 use Rattle.sk_tree.specs.declared.tree.Program.{Program}
 use Rattle.sk_cli.proofs.parts.parts_of.Goals as goal

@@ -1,5 +1,5 @@
-use Rattle.sk_codegen.proofs.MeansSource.{runs_as_source}
-use Rattle.sk_codegen.proofs.SoundObjects.{plain_is_sound}
+use Rattle.sk_scheme_runs.proofs.MeansSource.{runs_as_source}
+use Rattle.sk_scheme_sound.proofs.SoundObjects.{plain_is_sound}
 use Rattle.sk_codegen.proofs.laws.code_runs_as_source.Goals as goal
 
 pub returns : goal.returns

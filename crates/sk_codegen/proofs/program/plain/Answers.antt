@@ -1,9 +1,9 @@
 use Rattle.std.proofs.Common.{sym, subst}
 use Rattle.sk_isa.specs.Soundness.{IsSound, TakesScalars}
 use Rattle.sk_isa.specs.declared.object.Object.{Object}
-use Rattle.sk_codegen.specs.Means.{MeansSource}
-use Rattle.sk_codegen.proofs.MeansSource.{means_source}
-use Rattle.sk_codegen.proofs.SoundObjects.{plain_is_sound, plain_takes_scalars}
+use Rattle.sk_plain.specs.Means.{MeansSource}
+use Rattle.sk_scheme_runs.proofs.MeansSource.{means_source}
+use Rattle.sk_scheme_sound.proofs.SoundObjects.{plain_is_sound, plain_takes_scalars}
 use Rattle.sk_codegen.proofs.program.plain.Goals as goal
 
 pub returns-clause-sound : goal.returns-clause-sound

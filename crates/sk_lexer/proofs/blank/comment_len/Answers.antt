@@ -1,6 +1,6 @@
 use Rattle.std.proofs.Common.{◌∙◌, sym}
 use Rattle.std.proofs.lemmas.List.{take_rest}
-use Rattle.sk_lexer.proofs.Blanks.{HasPassed-none, HasPassed-more, comment_rest-unclosed}
+use Rattle.sk_token_laws.proofs.Comments.{HasPassed-none, HasPassed-more, comment_rest-unclosed}
 use Rattle.sk_lexer.proofs.blank.comment_len.Goals as goal
 
 pub loop-at-init : goal.loop-at-init

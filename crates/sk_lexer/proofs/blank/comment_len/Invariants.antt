@@ -1,5 +1,5 @@
 use Rattle.std.proofs.Common.{◌-◌, length}
-use Rattle.sk_lexer.proofs.Blanks.{HasPassed}
+use Rattle.sk_token_laws.proofs.Comments.{HasPassed}
 use Rattle.sk_lexer.proofs.blank.comment_len.Given as goal
 
 abbrev pub invariant-loop-at : goal.invariant-loop-at

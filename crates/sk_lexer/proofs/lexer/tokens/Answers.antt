@@ -1,9 +1,10 @@
 use Rattle.std.proofs.Common.{◌∙◌, ℕ, ◌+◌, ◌++◌, ◌∷◌, [], refl, sym, subst, ap, arith}
 use Rattle.std.proofs.lemmas.List.{take_rest}
-use Rattle.sk_tree.specs.declared.token.Token.{Token}
+use Rattle.sk_tokens.specs.declared.token.Token.{Token}
 use Rattle.sk_lexer.specs.declared.place.Place.{Place}
 use Rattle.sk_lexer.specs.declared.piece.Piece.TheVariants as code
-use Rattle.sk_lexer.proofs.Runs.{HasLexed, HasLexed-none, HasLexed-passed, HasLexed-found, piece_at-place, IsPast-fold, bytes_within, found_within, length-front}
+use Rattle.sk_token_laws.proofs.Progress.{HasLexed, HasLexed-none, HasLexed-passed, HasLexed-found, bytes_within, found_within}
+use Rattle.sk_lexer.proofs.Reached.{piece_at-place, IsPast-fold, length-front}
 use Rattle.sk_lexer.proofs.lexer.tokens.Goals as goal
 
 pub loop-place-init : goal.loop-place-init

@@ -1,6 +1,6 @@
 use Rattle.std.proofs.Common.{◌≡◌, ◌-◌, length, take}
 use Rattle.sk_lexer.specs.Places.{place_after}
-use Rattle.sk_lexer.proofs.Runs.{HasLexed}
+use Rattle.sk_token_laws.proofs.Progress.{HasLexed}
 use Rattle.sk_lexer.proofs.lexer.tokens.Given as goal
 
 abbrev pub invariant-loop-place : goal.invariant-loop-place

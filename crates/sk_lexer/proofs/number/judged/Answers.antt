@@ -1,6 +1,6 @@
 use Rattle.std.proofs.Common.{◌≡◌, sym, arith, to_z, pos, w64}
 use Rattle.std.proofs.lemmas.Int.{ints}
-use Rattle.sk_lexer.proofs.Numbers.{judged-runs_on, judged-wide, judged-number}
+use Rattle.sk_token_laws.proofs.Numbers.{judged-runs_on, judged-wide, judged-number}
 use Rattle.sk_lexer.proofs.number.judged.Goals as goal
 
 pub returns-then-runs_on : goal.returns-then-runs_on

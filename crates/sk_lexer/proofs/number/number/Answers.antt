@@ -1,5 +1,5 @@
 use Rattle.std.proofs.Common.{◌∙◌, sym}
-use Rattle.sk_lexer.proofs.Numbers.{token_at-suffixed, token_at-plain}
+use Rattle.sk_token_laws.proofs.Numbers.{token_at-suffixed, token_at-plain}
 use Rattle.sk_lexer.proofs.number.number.Goals as goal
 
 pub returns-then-has_suffix : goal.returns-then-has_suffix

@@ -1,5 +1,5 @@
 use Rattle.std.proofs.Common.{◌≡◌, ◌-◌, ◌^◌, min, take}
-use Rattle.sk_tree.specs.Lexemes.{digits_value}
+use Rattle.sk_tokens.specs.Lexemes.{digits_value}
 use Rattle.sk_lexer.proofs.number.value_of.Given as goal
 
 abbrev pub invariant-loop-digit : goal.invariant-loop-digit

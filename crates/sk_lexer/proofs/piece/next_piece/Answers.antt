@@ -1,9 +1,9 @@
 use Rattle.std.proofs.Common.{◌∙◌, drop, refl, sym, ap, arith}
 use Rattle.std.proofs.lemmas.Bool.{eq-eqb, ne_eqb}
 use Rattle.std.proofs.lemmas.List.{take_rest, length-drop}
-use Rattle.sk_tree.specs.Tokens.{comment_rest}
-use Rattle.sk_lexer.proofs.Blanks.{comment_rest-within}
-use Rattle.sk_lexer.proofs.PieceLemmas.{piece_at-some}
+use Rattle.sk_tokens.specs.Tokens.{comment_rest}
+use Rattle.sk_token_laws.proofs.Comments.{comment_rest-within}
+use Rattle.sk_token_laws.proofs.Pieces.{piece_at-some}
 use Rattle.sk_lexer.proofs.piece.next_piece.Goals as goal
 
 pub returns-then-is_blank : goal.returns-then-is_blank

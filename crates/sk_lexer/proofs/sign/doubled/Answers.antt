@@ -2,8 +2,8 @@ use Rattle.std.proofs.Common.{◌≡◌, ℕ, Bool, false, List, [], ◌∷◌, 
 use Rattle.std.specs.Prelude.{not, ◌==◌, ◌||◌, codes}
 use Rattle.std.specs.List.{list_any}
 use Rattle.std.proofs.lemmas.Bool.Decides.{nat_tests}
-use Rattle.sk_tree.specs.Lexemes.{signs}
-use Rattle.sk_lexer.proofs.Signs.{sign_of-none}
+use Rattle.sk_tokens.specs.Lexemes.{signs}
+use Rattle.sk_token_laws.proofs.Signs.{sign_of-none}
 use Rattle.sk_lexer.proofs.sign.doubled.Goals as goal
 
 -- the same byte twice, and which

@@ -1,8 +1,8 @@
 use Rattle.std.proofs.Common.{◌≡◌, ℕ, Bool, false, List, [], ◌∷◌, refl, sym, length, slice_index, arith}
 use Rattle.std.specs.Prelude.{not, ◌==◌, ◌||◌}
 use Rattle.std.proofs.lemmas.Bool.Decides.{nat_tests}
-use Rattle.sk_tree.specs.Lexemes.{signs}
-use Rattle.sk_lexer.proofs.Signs.{sign_of-none}
+use Rattle.sk_tokens.specs.Lexemes.{signs}
+use Rattle.sk_token_laws.proofs.Signs.{sign_of-none}
 use Rattle.sk_lexer.proofs.sign.of_two.Goals as goal
 
 -- two bytes: the second is `=` or as the first

@@ -1,5 +1,5 @@
 use Rattle.std.proofs.Common.{sym}
-use Rattle.sk_lexer.proofs.Signs.{BeginsSign, token_at-sign_three, token_at-sign_two, token_at-sign_one, token_at-no_sign}
+use Rattle.sk_token_laws.proofs.Signs.{BeginsSign, token_at-sign_three, token_at-sign_two, token_at-sign_one, token_at-no_sign}
 use Rattle.sk_lexer.proofs.sign.sign.Goals as goal
 
 pub returns-in-Some : goal.returns-in-Some

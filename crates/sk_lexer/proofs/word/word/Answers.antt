@@ -1,7 +1,7 @@
 use Rattle.std.proofs.Common.{◌∙◌, refl, sym, arith}
-use Rattle.sk_tree.specs.Lexemes.{is_word_byte}
-use Rattle.sk_lexer.proofs.Prefixes.{length-take_while}
-use Rattle.sk_lexer.proofs.Words.{token_at-word, token_at-long_word}
+use Rattle.sk_names.specs.Bytes.{is_word_byte}
+use Rattle.sk_token_laws.proofs.Prefixes.{length-take_while}
+use Rattle.sk_token_laws.proofs.Words.{token_at-word, token_at-long_word}
 use Rattle.sk_lexer.proofs.word.word.Goals as goal
 
 pub returns-then-bytes-gt-LONGEST : goal.returns-then-bytes-gt-LONGEST

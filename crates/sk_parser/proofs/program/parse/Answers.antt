@@ -1,9 +1,9 @@
 use Rattle.std.proofs.Common.{◌≢◌, ◌∙◌}
 use Rattle.std.proofs.lemmas.Result.{err_from_is_err_and}
-use Rattle.sk_tree.specs.Limits.{ReadsWithin}
+use Rattle.sk_grammar.specs.Limits.{ReadsWithin}
 use Rattle.sk_tree.specs.declared.tree.Program.{Program}
-use Rattle.sk_parser.specs.declared.fault.ParseFault.TheVariants.{Memory}
-use Rattle.sk_parser.proofs.ProgramsRead.{not_refused}
+use Rattle.sk_reader.specs.declared.fault.ParseFault.TheVariants.{Memory}
+use Rattle.sk_reading_complete_laws.proofs.Programs.{not_refused}
 use Rattle.sk_parser.proofs.program.parse.Goals as goal
 
 pub returns-in_err-functions-clause-refused : goal.returns-in_err-functions-clause-refused

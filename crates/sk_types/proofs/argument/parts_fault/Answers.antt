@@ -1,7 +1,7 @@
 use Rattle.std.proofs.Common.{◌∙◌, ap}
-use Rattle.sk_tree.specs.TypingFaults.{earlier}
+use Rattle.sk_typing.specs.TypingFaults.{earlier}
 use Rattle.sk_types.specs.Told.{seen, part_told}
-use Rattle.sk_types.proofs.LeastLemmas.{told_turn}
+use Rattle.sk_typing_laws.proofs.Least.{told_turn}
 use Rattle.sk_types.proofs.argument.parts_fault.Goals as goal
 
 pub loop-argument-preserved : goal.loop-argument-preserved

@@ -1,5 +1,5 @@
 use Rattle.std.proofs.Common.{◌≡◌, map, take}
-use Rattle.sk_tree.specs.TypingExpressions as expressions
+use Rattle.sk_typing.specs.TypingExpressions as expressions
 use Rattle.sk_types.specs.Told.{seen, argument_of}
 use Rattle.sk_types.proofs.expression.+judged.Given as goal
 

@@ -1,6 +1,6 @@
 use Rattle.std.proofs.Common.{ap, Bool, true}
-use Rattle.sk_tree.specs.TypingNames.{Around}
-use Rattle.sk_types.proofs.FunctionLemmas.{functions_told}
+use Rattle.sk_typing.specs.TypingNames.{Around}
+use Rattle.sk_typing_laws.proofs.Functions.{functions_told}
 use Rattle.sk_types.proofs.function.+functions_fault.Goals as goal
 
 pub returns-in_ok-more-in-len1-up : goal.returns-in_ok-more-in-len1-up

@@ -1,6 +1,6 @@
 use Rattle.std.proofs.Common.{◌∙◌}
 use Rattle.sk_types.specs.Told.{seen}
-use Rattle.sk_types.proofs.FunctionLemmas.{body_told, body_names}
+use Rattle.sk_typing_laws.proofs.Functions.{body_told, body_names}
 use Rattle.sk_types.proofs.function.body_fault.Goals as goal
 
 pub returns-clause-told : goal.returns-clause-told

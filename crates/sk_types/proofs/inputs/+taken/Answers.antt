@@ -1,4 +1,4 @@
-use Rattle.sk_types.proofs.TakeLemmas.{if_take, for_taken, take_turn, take_end}
+use Rattle.sk_typing_laws.proofs.Takes.{if_take, for_taken, take_turn, take_end}
 use Rattle.sk_types.proofs.inputs.+taken.Goals as goal
 
 pub take_inputs-loop-next-preserved : goal.take_inputs-loop-next-preserved

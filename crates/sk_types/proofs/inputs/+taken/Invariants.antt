@@ -1,4 +1,4 @@
-use Rattle.sk_types.proofs.TakeLemmas.{IsTaken}
+use Rattle.sk_typing_laws.proofs.Takes.{IsTaken}
 use Rattle.sk_types.proofs.inputs.+taken.Given as goal
 
 abbrev pub invariant-take_inputs-loop-next : goal.invariant-take_inputs-loop-next

@@ -1,9 +1,9 @@
 use Rattle.std.proofs.Common.{◌∙◌, sym}
-use Rattle.sk_tree.specs.Bindings.{bound_to}
-use Rattle.sk_tree.specs.TypingFaults.{least_of}
-use Rattle.sk_tree.specs.TypingInstances as instances
+use Rattle.sk_names.specs.Bindings.{bound_to}
+use Rattle.sk_typing.specs.TypingFaults.{least_of}
+use Rattle.sk_typing.specs.TypingInstances as instances
 use Rattle.sk_types.specs.Told.{seen}
-use Rattle.sk_types.proofs.LeastLemmas.{told_item, told_end, least_of_flat_map}
+use Rattle.sk_typing_laws.proofs.Least.{told_item, told_end, least_of_flat_map}
 use Rattle.sk_types.proofs.instance.callees_fault.Goals as goal
 
 pub loop-name-preserved : goal.loop-name-preserved

@@ -1,5 +1,5 @@
 use Rattle.std.proofs.Common.{◌≡◌, ◌++◌}
-use Rattle.sk_tree.specs.TypingNames as names
+use Rattle.sk_typing.specs.TypingNames as names
 use Rattle.sk_types.proofs.places.push_numbers.Given as goal
 
 abbrev pub invariant-loop-i : goal.invariant-loop-i

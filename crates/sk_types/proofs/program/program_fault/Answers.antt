@@ -1,8 +1,8 @@
 use Rattle.std.proofs.Common.{◌∙◌, ◌++◌, List, []}
-use Rattle.sk_tree.specs.Inputs.{input_faults_after}
-use Rattle.sk_tree.specs.Typing as typing
-use Rattle.sk_tree.specs.declared.names.Fault.{Fault}
-use Rattle.sk_types.proofs.LeastLemmas.{joined}
+use Rattle.sk_typing.specs.Inputs.{input_faults_after}
+use Rattle.sk_typing.specs.Typing as typing
+use Rattle.sk_typing.specs.declared.names.Fault.{Fault}
+use Rattle.sk_typing_laws.proofs.Least.{joined}
 use Rattle.sk_types.proofs.program.program_fault.Goals as goal
 
 pub returns-clause-told : goal.returns-clause-told

@@ -1,5 +1,5 @@
 use Rattle.std.proofs.Common.{◌≡◌, drop}
-use Rattle.sk_tree.specs.TypingStatements as walks
+use Rattle.sk_typing.specs.TypingStatements as walks
 use Rattle.sk_types.proofs.returning.+returning.Given as goal
 
 abbrev pub invariant-block_returns-loop-next : goal.invariant-block_returns-loop-next

@@ -1,6 +1,6 @@
 use Rattle.std.proofs.Common.{◌∙◌}
-use Rattle.sk_tree.specs.Bindings.{bound_to}
-use Rattle.sk_tree.specs.TypingExpressions as expressions
+use Rattle.sk_names.specs.Bindings.{bound_to}
+use Rattle.sk_typing.specs.TypingExpressions as expressions
 use Rattle.sk_types.specs.Told.{seen}
 use Rattle.sk_types.proofs.ToldLemmas.{call_kept}
 use Rattle.sk_types.proofs.simple.call_in_main.Goals as goal

@@ -1,8 +1,8 @@
 use Rattle.std.proofs.Common.{◌∙◌, sym, ap}
-use Rattle.sk_tree.specs.TypingFaults.{earlier, least_of}
-use Rattle.sk_tree.specs.TypingStatements as statements
+use Rattle.sk_typing.specs.TypingFaults.{earlier, least_of}
+use Rattle.sk_typing.specs.TypingStatements as statements
 use Rattle.sk_types.specs.Told.{seen}
-use Rattle.sk_types.proofs.LeastLemmas.{told_item, told_end, least_of_flat_map}
+use Rattle.sk_typing_laws.proofs.Least.{told_item, told_end, least_of_flat_map}
 use Rattle.sk_types.proofs.simple.items_fault.Goals as goal
 
 pub loop-item-preserved : goal.loop-item-preserved

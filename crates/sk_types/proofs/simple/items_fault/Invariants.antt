@@ -1,7 +1,8 @@
 use Rattle.std.proofs.Common.{◌≡◌, take}
-use Rattle.sk_tree.specs.TypingFaults.{least_of}
-use Rattle.sk_tree.specs.TypingStatements as statements
-use Rattle.sk_types.specs.Told.{seen, first_told}
+use Rattle.sk_typing.specs.TypingFaults.{least_of}
+use Rattle.sk_typing.specs.TypingStatements as statements
+use Rattle.sk_typing.specs.TypingFaults.{first_told}
+use Rattle.sk_types.specs.Told.{seen}
 use Rattle.sk_types.proofs.simple.items_fault.Given as goal
 
 abbrev pub invariant-loop-item : goal.invariant-loop-item

@@ -1,8 +1,8 @@
 use Rattle.std.proofs.Common.{◌∙◌}
-use Rattle.sk_tree.specs.Bindings.{bound_to}
-use Rattle.sk_tree.specs.TypingExpressions as expressions
+use Rattle.sk_names.specs.Bindings.{bound_to}
+use Rattle.sk_typing.specs.TypingExpressions as expressions
 use Rattle.sk_types.specs.Told.{seen}
-use Rattle.sk_types.proofs.LeastLemmas.{joined}
+use Rattle.sk_typing_laws.proofs.Least.{joined}
 use Rattle.sk_types.proofs.simple.poke_in_main.Goals as goal
 
 pub returns : goal.returns

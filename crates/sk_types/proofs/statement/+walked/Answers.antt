@@ -1,5 +1,5 @@
 use Rattle.sk_types.specs.Told.{seen}
-use Rattle.sk_types.proofs.WalkLemmas.{if_told, for_told, for_names, walk_turn, walk_end, walk_left}
+use Rattle.sk_typing_laws.proofs.Walks.{if_told, for_told, for_names, walk_turn, walk_end, walk_left}
 use Rattle.sk_types.proofs.statement.+walked.Goals as goal
 
 pub walk-returns-in_ok-second-in-If-clause-told : goal.walk-returns-in_ok-second-in-If-clause-told

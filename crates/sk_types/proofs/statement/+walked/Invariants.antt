@@ -1,5 +1,5 @@
 use Rattle.sk_types.specs.Told.{seen}
-use Rattle.sk_types.proofs.WalkLemmas.{IsWalked}
+use Rattle.sk_typing_laws.proofs.Walks.{IsWalked}
 use Rattle.sk_types.proofs.statement.+walked.Given as goal
 
 abbrev pub invariant-walk_block-loop-next : goal.invariant-walk_block-loop-next

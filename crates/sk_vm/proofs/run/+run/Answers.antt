@@ -1,8 +1,9 @@
-use Rattle.std.proofs.Common.{rules, ◌≡◌, ℕ, ℤ, ◌<◌, ◌≤◌, ◌+◌, ◌-◌, ◌*◌, List, ◌++◌, length, take, drop, map, reverse, Some, Ok, Result, slice_set, sym, ap, subst, ◌∙◌, arith, FitsSigned, w64, length-take-le}
-use Rattle.sk_tree.specs.Evaluation.{Value}
+use Rattle.std.proofs.Common.{rules, ◌≡◌, ℕ, suc, ℤ, ◌<◌, ◌≤◌, ◌+◌, ◌-◌, ◌*◌, List, ◌++◌, length, take, drop, map, reverse, Some, Ok, Result, slice_set, sym, ap, subst, ◌∙◌, arith, FitsSigned, w64, length-take-le}
+use Rattle.sk_meaning.specs.Evaluation.{Value}
 use Rattle.sk_isa.specs.Instances.{signature_at}
 use Rattle.sk_isa.specs.Soundness.{SuitParams}
-use Rattle.sk_vm.specs.Rooms.{Begins, given_to}
+use Rattle.sk_vm.specs.Entries.{Entered}
+use Rattle.sk_vm.specs.Rooms.{Begins, depth_below, given_to, slots_below}
 use Rattle.sk_vm.specs.Points.{values_in, point_at}
 use Rattle.std.proofs.lemmas.Int.{to_z-of_z}
 use Rattle.sk_base.specs.declared.number.Trap.{Trap}
@@ -20,7 +21,7 @@ deep h is = omega arith
 
 pub run_code-loop-next-init : goal.run_code-loop-next-init
 run_code-loop-next-init t c =
-    starts c.args.object.now c.requires.sound c.args.function c.requires.there c.args.slots.now c.requires.begins c.args.turns c.args.stack.now c.instrs-instrs.result.now c.instrs-instrs.ensures
+    starts c.args.entry.now.object c.instrs-instrs.ensures.entered.sound c.args.entry.now.function c.instrs-instrs.ensures.entered.there c.args.slots.now c.requires.begins c.args.turns c.args.stack.now c.instrs-instrs.result.now c.instrs-instrs.ensures.instrs
 
 pub run_code-instr_at-requires : goal.run_code-instr_at-requires
 run_code-instr_at-requires t c = within _ _ _ _ _ _ _ _ c.loop-next.invariant
@@ -29,35 +30,38 @@ pub run_code-step-requires-clause-inside : goal.run_code-step-requires-clause-in
 run_code-step-requires-clause-inside t c = inside _ _ _ _ _ _ c.loop-next.stack _ c.loop-next.invariant (deep c.requires.depth c.loop-next.auto.stack)
 
 pub run_code-step-requires-clause-needs : goal.run_code-step-requires-clause-needs
-run_code-step-requires-clause-needs t c = needs _ _ _ _ _ _ c.loop-next.stack _ c.loop-next.invariant _ c.requires.scalars c.instr_at.ensures.found (deep c.requires.depth c.loop-next.auto.stack)
+run_code-step-requires-clause-needs t c = needs _ _ _ _ _ _ c.loop-next.stack _ c.loop-next.invariant _ c.instrs-instrs.ensures.entered.scalars c.instr_at.ensures.found (deep c.requires.depth c.loop-next.auto.stack)
 
 pub run_code-loop-next-smaller-in-Goes : goal.run_code-loop-next-smaller-in-Goes
 run_code-loop-next-smaller-in-Goes t c =
     (goes_on _ _ _ _ _ _ c.in-Goes.next _ c.step.new.stack _ c.step.new.slots _ c.instr_at.ensures.found c.loop-next.invariant
-    (c.in-Goes.ensures.leads (routine_at c.args.object.now c.args.function c.loop-next.invariant.code c.args.slots.now))).1
+    (c.in-Goes.ensures.leads (routine_at c.args.entry.now.object c.args.entry.now.function c.loop-next.invariant.code c.args.slots.now))).1
 
 pub run_code-loop-next-preserved-in-Goes : goal.run_code-loop-next-preserved-in-Goes
 run_code-loop-next-preserved-in-Goes t c =
     (goes_on _ _ _ _ _ _ c.in-Goes.next _ c.step.new.stack _ c.step.new.slots _ c.instr_at.ensures.found c.loop-next.invariant
-    (c.in-Goes.ensures.leads (routine_at c.args.object.now c.args.function c.loop-next.invariant.code c.args.slots.now))).0
+    (c.in-Goes.ensures.leads (routine_at c.args.entry.now.object c.args.entry.now.function c.loop-next.invariant.code c.args.slots.now))).0
 
 pub run_code-returns-in-Ends : goal.run_code-returns-in-Ends
 run_code-returns-in-Ends t c =
     let fits : FitsSigned w64 c.in-Ends.value = search rules in
     ap (λ (x : ℤ). Ok (x, c.in-Ends.left)) (to_z-of_z w64 c.in-Ends.value fits)
     ∙ sym (ends_with _ _ _ _ _ _ _ _ _ _ c.instr_at.ensures.found c.loop-next.invariant
-    (c.in-Ends.ensures.leads (routine_at c.args.object.now c.args.function c.loop-next.invariant.code c.args.slots.now)))
+    (c.in-Ends.ensures.leads (routine_at c.args.entry.now.object c.args.entry.now.function c.loop-next.invariant.code c.args.slots.now)))
 
 pub run_code-returns-in-Traps : goal.run_code-returns-in-Traps
 run_code-returns-in-Traps t c =
     sym (ends_with _ _ _ _ _ _ _ _ _ _ c.instr_at.ensures.found c.loop-next.invariant
-    (c.in-Traps.ensures.leads (routine_at c.args.object.now c.args.function c.loop-next.invariant.code c.args.slots.now)))
+    (c.in-Traps.ensures.leads (routine_at c.args.entry.now.object c.args.entry.now.function c.loop-next.invariant.code c.args.slots.now)))
 
 -- a step calls a function
 ready : (t : ℕ) (c : run_code-In-Calls t) → CallReady _ _ _ _ _ _ _ _ c.loop-next.invariant c.in-Calls.callee (length c.loop-next.rest)
 ready t c =
-    call_ready _ _ _ _ _ _ _ _ c.loop-next.invariant c.in-Calls.callee (length c.loop-next.rest) c.requires.there (c.instr_at.ensures.found ∙ ap Some c.in-Calls.ensures.leads)
+    call_ready _ _ _ _ _ _ _ _ c.loop-next.invariant c.in-Calls.callee (length c.loop-next.rest) c.instrs-instrs.ensures.entered.there (c.instr_at.ensures.found ∙ ap Some c.in-Calls.ensures.leads)
     (deep c.requires.depth c.loop-next.auto.stack) (deep c.requires.room c.loop-next.auto.rest)
+
+pub run_code-of-requires : goal.run_code-of-requires
+run_code-of-requires t c = (ready t (goal.at.run_code-of-requires t c).In-Calls).there
 
 pub run_code-called-requires : goal.run_code-called-requires
 run_code-called-requires t c =
@@ -67,25 +71,30 @@ run_code-called-requires t c =
     let before = ready.before in
     let value = ready.value in
     let depth = ready.depth in
-    let falls : 2 * c.in-Calls.callee + 1 < t = omega (arith, c.decreases) in (
-      falls,
+    let falls : 2 * c.in-Calls.callee + 1 < t = omega (arith, c.decreases) in
+    let suited = subst (λ (stack : List ℤ). SuitParams (signature_at c.args.entry.now.object c.in-Calls.callee).params
+    (map Value (reverse (take (length (signature_at c.args.entry.now.object c.in-Calls.callee).params) (values_in stack c.loop-next.stand.top))))) (sym c.in-Calls.ensures.kept.0) ready.suited in
+    let high : c.loop-next.stand.top ≤ length c.step.new.stack = omega arith in
+    let under : c.loop-next.stand.top < length c.step.new.stack + length (signature_at c.args.entry.now.object c.in-Calls.callee).params = omega arith in
+    let deep : depth_below c.args.entry.now.object.functions (suc c.in-Calls.callee) + c.loop-next.stand.top
+    ≤ length c.step.new.stack + length (signature_at c.args.entry.now.object c.in-Calls.callee).params = omega arith in
+    let top = c.loop-next.stand.top in
+    let is : record { object = c.args.entry.now.object; function = c.in-Calls.callee } ≡ c.of.result = sym c.of.ensures in (
+      subst (λ (e : Entered). 2 * e.function + 1 < t) is falls,
       (
-        c.requires.sound,
+        c.instr_at.ensures.address,
         (
-          c.requires.scalars,
+          high,
           (
-            ready.there,
+            subst (λ (e : Entered). length (signature_at e.object e.function).params ≤ top) is ready.takes,
             (
-              c.instr_at.ensures.address,
+              subst (λ (e : Entered). SuitParams (signature_at e.object e.function).params
+                  (map Value (reverse (take (length (signature_at e.object e.function).params) (values_in c.step.new.stack top))))) is suited,
               (
-                omega arith,
+                subst (λ (e : Entered). top < length c.step.new.stack + length (signature_at e.object e.function).params) is under,
                 (
-                  ready.takes,
-                  (
-                    subst (λ (stack : List ℤ). SuitParams (signature_at c.args.object.now c.in-Calls.callee).params
-                        (map Value (reverse (take (length (signature_at c.args.object.now c.in-Calls.callee).params) (values_in stack c.loop-next.stand.top))))) (sym c.in-Calls.ensures.kept.0) ready.suited,
-                    (omega arith, (omega arith, ready.room)),
-                  ),
+                  subst (λ (e : Entered). depth_below e.object.functions (suc e.function) + top ≤ length c.step.new.stack + length (signature_at e.object e.function).params) is deep,
+                  subst (λ (e : Entered). slots_below e.object.functions (suc e.function) ≤ length c.loop-next.rest) is ready.room,
                 ),
               ),
             ),
@@ -96,40 +105,40 @@ run_code-called-requires t c =
 
 pub called-enter-requires : goal.called-enter-requires
 called-enter-requires t c =
-    let fit = params_fit c.args.object.now c.requires.sound c.args.callee c.requires.there in
+    let fit = params_fit c.args.callee.now.object c.slot_count.ensures.entered.sound c.args.callee.now.function c.slot_count.ensures.entered.there in
     let takes = c.param_count-takes.ensures in
-    let count = c.slot_count.ensures in
+    let count = c.slot_count.ensures.count in
     let size = c.split_at_mut-slots.ensures.front_len in
     omega (arith, length-take-le c.param_count-takes.result c.split_at_mut-free.result.1.now)
 
 -- the slots of the function that is called begin with its arguments
 begins : (t : ℕ) (c : called-After-enter t)
-    → Begins c.args.object.now c.args.callee c.enter.new.slots
-    × (given_to c.args.object.now c.args.callee c.enter.new.slots ≡ passed c.args.object.now c.args.callee c.args.stack.now c.args.stand.top)
+    → Begins c.args.callee.now.object c.args.callee.now.function c.enter.new.slots
+    × (given_to c.args.callee.now.object c.args.callee.now.function c.enter.new.slots ≡ passed c.args.callee.now.object c.args.callee.now.function c.args.stack.now c.args.stand.top)
 begins t c =
     let takes = c.param_count-takes.ensures in
     let enough = c.requires.takes in
-    call_begins c.args.object.now c.requires.sound c.args.callee c.requires.there c.args.stack.now c.split_at_mut-free.result.1.now c.enter.new.slots c.args.stand.top
+    call_begins c.args.callee.now.object c.slot_count.ensures.entered.sound c.args.callee.now.function c.slot_count.ensures.entered.there c.args.stack.now c.split_at_mut-free.result.1.now c.enter.new.slots c.args.stand.top
     c.param_count-takes.result (length c.split_at_mut-slots.result.0.now) takes (omega arith) c.requires.inside c.split_at_mut-free.ensures.back
-    (c.split_at_mut-slots.ensures.front_len ∙ c.slot_count.ensures) c.enter.auto.slots c.enter.ensures c.requires.suited
+    (c.split_at_mut-slots.ensures.front_len ∙ c.slot_count.ensures.count) c.enter.auto.slots c.enter.ensures c.requires.suited
 
 pub called-run_code-requires : goal.called-run_code-requires
 called-run_code-requires t c =
     let takes = c.param_count-takes.ensures in
     let enough = c.requires.takes in
-    let falls : 2 * c.args.callee < t = omega (arith, c.decreases) in
+    let falls : 2 * c.args.callee.now.function < t = omega (arith, c.decreases) in
     let free = c.split_at_mut-free.ensures.back_len in
     let below = c.split_at_mut-slots.ensures.back_len in
-    let count = c.slot_count.ensures in
+    let count = c.slot_count.ensures.count in
     let depth = c.requires.depth in
     let room = c.requires.room in
-    (falls, (c.requires.sound, (c.requires.scalars, (c.requires.there, ((begins t (goal.at.called-run_code-requires t c).After-enter).0, (omega arith, omega arith))))))
+    (falls, ((begins t (goal.at.called-run_code-requires t c).After-enter).0, (omega arith, omega arith)))
 
 -- the value of the function that is called
 gives : (t : ℕ) (c : called-After-enter t) (value : Result (ℤ × ℕ) Trap)
-    → value ≡ function_of c.args.object.now c.args.callee (map Value (given_to c.args.object.now c.args.callee c.enter.new.slots)) c.args.stand.turns
-    → function_of c.args.object.now c.args.callee (map Value (passed c.args.object.now c.args.callee c.args.stack.now c.args.stand.top)) c.args.stand.turns ≡ value
-gives t c value is = ap (λ (xs : List ℤ). function_of c.args.object.now c.args.callee (map Value xs) c.args.stand.turns) (sym (begins t c).1) ∙ sym is
+    → value ≡ function_of c.args.callee.now.object c.args.callee.now.function (map Value (given_to c.args.callee.now.object c.args.callee.now.function c.enter.new.slots)) c.args.stand.turns
+    → function_of c.args.callee.now.object c.args.callee.now.function (map Value (passed c.args.callee.now.object c.args.callee.now.function c.args.stack.now c.args.stand.top)) c.args.stand.turns ≡ value
+gives t c value is = ap (λ (xs : List ℤ). function_of c.args.callee.now.object c.args.callee.now.function (map Value xs) c.args.stand.turns) (sym (begins t c).1) ∙ sym is
 
 pub called-returns-in-Ok : goal.called-returns-in-Ok
 called-returns-in-Ok t c slots =
@@ -141,37 +150,41 @@ called-returns-in-Ok t c slots =
     let value = c.requires.value in
     ap (λ (x : ℤ). Going (point_at (record { at = c.args.stand.at + 1; top = c.args.stand.top - c.param_count-takes.result + 1; turns = c.in-Ok.turns })
     (c.split_at_mut-free.result.0.now ++ slice_set c.run_code.new.stack 0 x) slots)) (to_z-of_z w64 c.in-Ok.value fits)
-    ∙ call_returns c.args.object.now c.args.callee c.args.stand c.args.stack.now c.split_at_mut-free.result.0.now c.split_at_mut-free.result.1.now c.run_code.new.stack slots
+    ∙ call_returns c.args.callee.now.object c.args.callee.now.function c.args.stand c.args.stack.now c.split_at_mut-free.result.0.now c.split_at_mut-free.result.1.now c.run_code.new.stack slots
     c.param_count-takes.result c.in-Ok.value c.in-Ok.turns takes (omega arith) c.split_at_mut-free.ensures.value c.split_at_mut-free.ensures.front_len (omega arith)
     (gives t (goal.at.called-returns-in-Ok t c).After-enter _ c.run_code.ensures ∙ c.in-Ok.is)
 
 pub called-returns-in-Err : goal.called-returns-in-Err
 called-returns-in-Err t c slots =
     sym (ap (returning (point_at c.args.stand c.args.stack.now slots)
-    (drop (length (signature_at c.args.object.now c.args.callee).params) (values_in c.args.stack.now c.args.stand.top))) (gives t (goal.at.called-returns-in-Err t c).After-enter _ c.run_code.ensures ∙ c.in-Err.is))
+    (drop (length (signature_at c.args.callee.now.object c.args.callee.now.function).params) (values_in c.args.stack.now c.args.stand.top))) (gives t (goal.at.called-returns-in-Err t c).After-enter _ c.run_code.ensures ∙ c.in-Err.is))
 
 -- where the call leads
-leads : (t : ℕ) (c : run_code-In-Calls t) (next : Next)
+leads : (t : ℕ) (c : run_code-In-Calls t) (next : Next) (called : Entered) → called ≡ record { object = c.args.entry.now.object; function = c.in-Calls.callee }
     → next ≡ returning (point_at c.loop-next.stand c.step.new.stack c.step.new.slots)
-    (drop (length (signature_at c.args.object.now c.in-Calls.callee).params) (values_in c.step.new.stack c.loop-next.stand.top))
-    (function_of c.args.object.now c.in-Calls.callee (map Value (passed c.args.object.now c.in-Calls.callee c.step.new.stack c.loop-next.stand.top)) c.loop-next.stand.turns)
-    → next_of (routine_at c.args.object.now c.args.function c.loop-next.invariant.code c.args.slots.now) c.instr_at.result.now (point_at c.loop-next.stand c.loop-next.stack c.loop-next.slots)
+    (drop (length (signature_at called.object called.function).params) (values_in c.step.new.stack c.loop-next.stand.top))
+    (function_of called.object called.function (map Value (passed called.object called.function c.step.new.stack c.loop-next.stand.top)) c.loop-next.stand.turns)
+    → next_of (routine_at c.args.entry.now.object c.args.entry.now.function c.loop-next.invariant.code c.args.slots.now) c.instr_at.result.now (point_at c.loop-next.stand c.loop-next.stack c.loop-next.slots)
     ≡ next
-leads t c =
-    call_leads _ _ _ _ _ _ _ _ c.loop-next.invariant c.requires.sound c.in-Calls.callee _ (ready t c) c.requires.there _ c.in-Calls.ensures.leads _ _
-    c.in-Calls.ensures.kept.0 c.in-Calls.ensures.kept.1
+leads t c next called is led =
+    let entered = c.instrs-instrs.ensures.entered in
+    call_leads _ _ _ _ _ _ _ _ c.loop-next.invariant entered.sound c.in-Calls.callee _ (ready t c) entered.there _ c.in-Calls.ensures.leads _ _
+    c.in-Calls.ensures.kept.0 c.in-Calls.ensures.kept.1 next
+    (subst (λ (e : Entered). next ≡ returning (point_at c.loop-next.stand c.step.new.stack c.step.new.slots)
+    (drop (length (signature_at e.object e.function).params) (values_in c.step.new.stack c.loop-next.stand.top))
+    (function_of e.object e.function (map Value (passed e.object e.function c.step.new.stack c.loop-next.stand.top)) c.loop-next.stand.turns)) is led)
 
 pub run_code-loop-next-smaller : goal.run_code-loop-next-smaller
 run_code-loop-next-smaller t c =
     (goes_on _ _ _ _ _ _ c.in-Ok.next _ c.called.new.stack _ c.step.new.slots _ c.instr_at.ensures.found c.loop-next.invariant
-    (leads t (goal.at.run_code-loop-next-smaller t c).In-Calls _ (c.in-Ok.ensures c.step.new.slots))).1
+    (leads t (goal.at.run_code-loop-next-smaller t c).In-Calls _ _ c.of.ensures (c.in-Ok.ensures c.step.new.slots))).1
 
 pub run_code-loop-next-preserved : goal.run_code-loop-next-preserved
 run_code-loop-next-preserved t c =
     (goes_on _ _ _ _ _ _ c.in-Ok.next _ c.called.new.stack _ c.step.new.slots _ c.instr_at.ensures.found c.loop-next.invariant
-    (leads t (goal.at.run_code-loop-next-preserved t c).In-Calls _ (c.in-Ok.ensures c.step.new.slots))).0
+    (leads t (goal.at.run_code-loop-next-preserved t c).In-Calls _ _ c.of.ensures (c.in-Ok.ensures c.step.new.slots))).0
 
 pub run_code-returns-in-Err : goal.run_code-returns-in-Err
 run_code-returns-in-Err t c =
     sym (ends_with _ _ _ _ _ _ _ _ _ _ c.instr_at.ensures.found c.loop-next.invariant
-    (leads t (goal.at.run_code-returns-in-Err t c).In-Calls _ (c.in-Err.ensures c.step.new.slots)))
+    (leads t (goal.at.run_code-returns-in-Err t c).In-Calls _ _ c.of.ensures (c.in-Err.ensures c.step.new.slots)))

@@ -2,7 +2,7 @@ use Rattle.std.proofs.Common.{rules, ◌≡◌, ◌∙◌, ◌-◌, ◌≤◌, l
 use Rattle.std.proofs.lemmas.Int.{to_z-of_z}
 use Rattle.sk_base.specs.Arithmetic.{InRange}
 use Rattle.sk_isa.specs.Instances.{signature_at}
-use Rattle.sk_tree.specs.Evaluation.{value_only}
+use Rattle.sk_meaning.specs.Evaluation.{value_only}
 use Rattle.sk_vm.specs.Arguments.{CanPass, Passes}
 use Rattle.sk_vm.proofs.Calls.{params_fit}
 use Rattle.sk_vm.proofs.Given.{scalars_only, value-in_range, passable, given_suit, begins_given, value_given}
@@ -13,35 +13,35 @@ use Rattle.sk_vm.proofs.start.start.Goals.{After-read}
 
 pub read-requires-clause-within : goal.read-requires-clause-within
 read-requires-clause-within g c =
-    let fit = params_fit c.args.object.now c.requires.sound c.args.function c.requires.there in
+    let fit = params_fit c.args.entry.now.object c.slot_count.ensures.entered.sound c.args.entry.now.function c.slot_count.ensures.entered.there in
     let count = c.param_count.ensures in
-    let slots = c.slot_count.ensures in
+    let slots = c.slot_count.ensures.count in
     let size = c.split_at_mut-own.ensures.front_len in
     omega arith
 
 pub read-requires-clause-few : goal.read-requires-clause-few
 read-requires-clause-few g c =
-    let few = (scalars_only c.args.object.now c.requires.sound c.requires.scalars c.args.function c.requires.there).1 in
+    let few = (scalars_only c.args.entry.now.object c.slot_count.ensures.entered.sound c.slot_count.ensures.entered.scalars c.args.entry.now.function c.slot_count.ensures.entered.there).1 in
     let count = c.param_count.ensures in
     omega arith
 
 pub read-requires-clause-there : goal.read-requires-clause-there
 read-requires-clause-there g c =
     subst (CanPass (g.D.Data.means c.args.source.now) c.args.reading.elements c.args.reading.pairs c.args.at.place c.args.at.pair) (sym c.param_count.ensures)
-    (passable c.args.object.now c.requires.sound c.requires.scalars c.args.function c.requires.there
+    (passable c.args.entry.now.object c.slot_count.ensures.entered.sound c.slot_count.ensures.entered.scalars c.args.entry.now.function c.slot_count.ensures.entered.there
     (record { elements = c.args.reading.elements; pairs = c.args.reading.pairs }) (g.D.Data.means c.args.source.now) c.args.at.place c.args.at.pair c.requires.suits)
 
 -- the slots begin with the arguments
-fit : (g : Over) (c : After-read g) → length (signature_at c.args.object.now c.args.function).params ≤ length c.read.new.slots
+fit : (g : Over) (c : After-read g) → length (signature_at c.args.entry.now.object c.args.entry.now.function).params ≤ length c.read.new.slots
 fit g c =
-    let fit = params_fit c.args.object.now c.requires.sound c.args.function c.requires.there in
-    let slots = c.slot_count.ensures in
+    let fit = params_fit c.args.entry.now.object c.slot_count.ensures.entered.sound c.args.entry.now.function c.slot_count.ensures.entered.there in
+    let slots = c.slot_count.ensures.count in
     let size = c.split_at_mut-own.ensures.front_len in
     let kept = c.read.auto.slots in
     omega arith
 
 passes : (g : Over) (c : After-read g)
-    → Passes (g.D.Data.means c.args.source.now) c.args.reading.elements c.args.reading.pairs c.args.at.place c.args.at.pair (given_to c.args.object.now c.args.function c.read.new.slots)
+    → Passes (g.D.Data.means c.args.source.now) c.args.reading.elements c.args.reading.pairs c.args.at.place c.args.at.pair (given_to c.args.entry.now.object c.args.entry.now.function c.read.new.slots)
 passes g c =
     subst (λ (n : ℕ). Passes (g.D.Data.means c.args.source.now) c.args.reading.elements c.args.reading.pairs c.args.at.place c.args.at.pair (take n c.read.new.slots))
     c.param_count.ensures c.read.ensures.arguments
@@ -49,9 +49,9 @@ passes g c =
 pub run_code-requires-clause-begins : goal.run_code-requires-clause-begins
 run_code-requires-clause-begins g c =
     let at = (goal.at.run_code-requires-clause-begins g c).After-read in
-    begins_given c.args.object.now c.requires.sound c.requires.scalars c.args.function c.requires.there
+    begins_given c.args.entry.now.object c.slot_count.ensures.entered.sound c.slot_count.ensures.entered.scalars c.args.entry.now.function c.slot_count.ensures.entered.there
     (record { elements = c.args.reading.elements; pairs = c.args.reading.pairs }) (g.D.Data.means c.args.source.now) c.args.at.place c.args.at.pair c.requires.suits
-    c.read.new.slots (fit g at) (passes g at) (c.read.auto.slots ∙ c.split_at_mut-own.ensures.front_len ∙ c.slot_count.ensures)
+    c.read.new.slots (fit g at) (passes g at) (c.read.auto.slots ∙ c.split_at_mut-own.ensures.front_len ∙ c.slot_count.ensures.count)
     (subst (λ (n : ℕ). drop n c.read.new.slots ≡ replicate (length c.read.new.slots - n) (pos 0)) c.param_count.ensures
     (c.read.ensures.others ∙ ap (λ (n : ℕ). replicate (n - c.param_count.result) (pos 0)) (sym c.read.auto.slots)))
 
@@ -61,7 +61,7 @@ returns-in-Ok-clause-value g c cells agree =
     let fits : FitsSigned w64 c.in-Ok.value = search rules in
     ap (λ (x : ℤ). Ok x) (to_z-of_z w64 c.in-Ok.value fits)
     ∙ ap value_only (sym c.in-Ok.is ∙ c.run_code.ensures)
-    ∙ value_given c.args.object.now c.requires.sound c.requires.scalars c.args.function c.requires.there
+    ∙ value_given c.args.entry.now.object c.slot_count.ensures.entered.sound c.slot_count.ensures.entered.scalars c.args.entry.now.function c.slot_count.ensures.entered.there
     (record { elements = c.args.reading.elements; pairs = c.args.reading.pairs }) (g.D.Data.means c.args.source.now) c.args.at.place c.args.at.pair c.requires.suits
     c.read.new.slots (fit g at) (passes g at) cells agree
 
@@ -69,16 +69,16 @@ pub returns-in-Ok-clause-range : goal.returns-in-Ok-clause-range
 returns-in-Ok-clause-range g c =
     let at = (goal.at.returns-in-Ok-clause-range g c).After-read in
     let fits : FitsSigned w64 c.in-Ok.value = search rules in
-    let suits = given_suit c.args.object.now c.requires.sound c.requires.scalars c.args.function c.requires.there
+    let suits = given_suit c.args.entry.now.object c.slot_count.ensures.entered.sound c.slot_count.ensures.entered.scalars c.args.entry.now.function c.slot_count.ensures.entered.there
     (record { elements = c.args.reading.elements; pairs = c.args.reading.pairs }) (g.D.Data.means c.args.source.now) c.args.at.place c.args.at.pair c.requires.suits
     c.read.new.slots (fit g at) (passes g at) in
-    subst (λ (x : ℤ). InRange (signature_at c.args.object.now c.args.function).ret x) (sym (to_z-of_z w64 c.in-Ok.value fits))
-    (value-in_range c.args.object.now c.requires.sound c.args.function c.requires.there _ suits c.in-Ok.value c.in-Ok.field-0-1 (sym c.run_code.ensures ∙ c.in-Ok.is))
+    subst (λ (x : ℤ). InRange (signature_at c.args.entry.now.object c.args.entry.now.function).ret x) (sym (to_z-of_z w64 c.in-Ok.value fits))
+    (value-in_range c.args.entry.now.object c.slot_count.ensures.entered.sound c.args.entry.now.function c.slot_count.ensures.entered.there _ suits c.in-Ok.value c.in-Ok.field-0-1 (sym c.run_code.ensures ∙ c.in-Ok.is))
 
 pub returns-in-Err-clause-value : goal.returns-in-Err-clause-value
 returns-in-Err-clause-value g c cells agree =
     let at = (goal.at.returns-in-Err-clause-value g c).After-read in
     ap value_only (sym c.in-Err.is ∙ c.run_code.ensures)
-    ∙ value_given c.args.object.now c.requires.sound c.requires.scalars c.args.function c.requires.there
+    ∙ value_given c.args.entry.now.object c.slot_count.ensures.entered.sound c.slot_count.ensures.entered.scalars c.args.entry.now.function c.slot_count.ensures.entered.there
     (record { elements = c.args.reading.elements; pairs = c.args.reading.pairs }) (g.D.Data.means c.args.source.now) c.args.at.place c.args.at.pair c.requires.suits
     c.read.new.slots (fit g at) (passes g at) cells agree

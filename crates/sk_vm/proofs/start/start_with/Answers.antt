@@ -3,8 +3,8 @@ use Rattle.std.proofs.lemmas.Int.{to_z-of_z}
 use Rattle.sk_base.specs.Arithmetic.{InRange}
 use Rattle.sk_isa.specs.Coded.{function_of}
 use Rattle.sk_isa.specs.Instances.{signature_at}
-use Rattle.sk_isa.proofs.TypedLists.{suited-length}
-use Rattle.sk_tree.specs.Evaluation.{Value, turn_limit, value_only}
+use Rattle.sk_isa_laws.proofs.TypedLists.{suited-length}
+use Rattle.sk_meaning.specs.Evaluation.{Value, turn_limit, value_only}
 use Rattle.sk_vm.proofs.Calls.{params_fit, begins-entered}
 use Rattle.sk_vm.proofs.Given.{value-in_range}
 use Rattle.sk_vm.specs.Rooms.{Begins, given_to}
@@ -18,26 +18,26 @@ entered is same_a same_b = cc
 
 pub enter-requires : goal.enter-requires
 enter-requires c =
-    let count = suited-length (signature_at c.args.object.now c.args.function).params (Value c.args.a ∷ Value c.args.b ∷ []) c.requires.suits in
-    let fit = params_fit c.args.object.now c.requires.sound c.args.function c.requires.there in
-    let slots = c.slot_count.ensures in
+    let count = suited-length (signature_at c.args.entry.now.object c.args.entry.now.function).params (Value c.args.a ∷ Value c.args.b ∷ []) c.requires.suits in
+    let fit = params_fit c.args.entry.now.object c.slot_count.ensures.entered.sound c.args.entry.now.function c.slot_count.ensures.entered.there in
+    let slots = c.slot_count.ensures.count in
     let size = c.split_at_mut-own.ensures.front_len in
     omega arith
 
 -- the slots begin with the two arguments
 begins : (c : After-enter)
-    → Begins c.args.object.now c.args.function c.enter.new.slots
-    × (given_to c.args.object.now c.args.function c.enter.new.slots ≡ c.args.a ∷ c.args.b ∷ [])
+    → Begins c.args.entry.now.object c.args.entry.now.function c.enter.new.slots
+    × (given_to c.args.entry.now.object c.args.entry.now.function c.enter.new.slots ≡ c.args.a ∷ c.args.b ∷ [])
 begins c =
-    let count = suited-length (signature_at c.args.object.now c.args.function).params (Value c.args.a ∷ Value c.args.b ∷ []) c.requires.suits in
-    begins-entered c.args.object.now c.args.function (c.args.a ∷ c.args.b ∷ []) c.enter.new.slots (length c.split_at_mut-own.result.0.now)
-    (entered c.enter.ensures (to_z-of_z w64 c.args.a c.ranges.a) (to_z-of_z w64 c.args.b c.ranges.b)) (c.split_at_mut-own.ensures.front_len ∙ c.slot_count.ensures) c.enter.auto.slots (omega arith) c.requires.suits
+    let count = suited-length (signature_at c.args.entry.now.object c.args.entry.now.function).params (Value c.args.a ∷ Value c.args.b ∷ []) c.requires.suits in
+    begins-entered c.args.entry.now.object c.args.entry.now.function (c.args.a ∷ c.args.b ∷ []) c.enter.new.slots (length c.split_at_mut-own.result.0.now)
+    (entered c.enter.ensures (to_z-of_z w64 c.args.a c.ranges.a) (to_z-of_z w64 c.args.b c.ranges.b)) (c.split_at_mut-own.ensures.front_len ∙ c.slot_count.ensures.count) c.enter.auto.slots (omega arith) c.requires.suits
 
 -- the function's value is that for the two arguments
 gives : (c : After-enter) (value : Result (ℤ × ℕ) Trap)
-    → value ≡ function_of c.args.object.now c.args.function (map Value (given_to c.args.object.now c.args.function c.enter.new.slots)) turn_limit
-    → value ≡ function_of c.args.object.now c.args.function (Value c.args.a ∷ Value c.args.b ∷ []) turn_limit
-gives c value is = is ∙ ap (λ (xs : List ℤ). function_of c.args.object.now c.args.function (map Value xs) turn_limit) (begins c).1
+    → value ≡ function_of c.args.entry.now.object c.args.entry.now.function (map Value (given_to c.args.entry.now.object c.args.entry.now.function c.enter.new.slots)) turn_limit
+    → value ≡ function_of c.args.entry.now.object c.args.entry.now.function (Value c.args.a ∷ Value c.args.b ∷ []) turn_limit
+gives c value is = is ∙ ap (λ (xs : List ℤ). function_of c.args.entry.now.object c.args.entry.now.function (map Value xs) turn_limit) (begins c).1
 
 pub run_code-requires-clause-begins : goal.run_code-requires-clause-begins
 run_code-requires-clause-begins c = (begins (goal.at.run_code-requires-clause-begins c).After-enter).0
@@ -51,8 +51,8 @@ returns-in-Ok-clause-value c =
 pub returns-in-Ok-clause-range : goal.returns-in-Ok-clause-range
 returns-in-Ok-clause-range c =
     let fits : FitsSigned w64 c.in-Ok.value = search rules in
-    subst (λ (x : ℤ). InRange (signature_at c.args.object.now c.args.function).ret x) (sym (to_z-of_z w64 c.in-Ok.value fits))
-    (value-in_range c.args.object.now c.requires.sound c.args.function c.requires.there (Value c.args.a ∷ Value c.args.b ∷ []) c.requires.suits c.in-Ok.value c.in-Ok.field-0-1
+    subst (λ (x : ℤ). InRange (signature_at c.args.entry.now.object c.args.entry.now.function).ret x) (sym (to_z-of_z w64 c.in-Ok.value fits))
+    (value-in_range c.args.entry.now.object c.slot_count.ensures.entered.sound c.args.entry.now.function c.slot_count.ensures.entered.there (Value c.args.a ∷ Value c.args.b ∷ []) c.requires.suits c.in-Ok.value c.in-Ok.field-0-1
     (sym (gives (goal.at.returns-in-Ok-clause-range c).After-enter _ c.run_code.ensures) ∙ c.in-Ok.is))
 
 pub returns-in-Err-clause-value : goal.returns-in-Err-clause-value

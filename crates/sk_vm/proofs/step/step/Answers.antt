@@ -1,7 +1,7 @@
 use Rattle.std.proofs.Common.{rules, ◌∷◌, ◌-◌, ◌∙◌, ap, subst, refl, pos, ℤ, FitsSigned, w64, slice_index_or}
 use Rattle.std.proofs.lemmas.Int.{to_z-of_z}
 use Rattle.sk_tree.specs.declared.tree.Un.TheVariants as prefix
-use Rattle.sk_tree.specs.Expressions.{prefix_of}
+use Rattle.sk_meaning.specs.Expressions.{prefix_of}
 use Rattle.sk_isa.specs.declared.code.Instr.{Instr}
 use Rattle.sk_isa.specs.declared.code.Instr.TheVariants.{Neg}
 use Rattle.sk_vm.specs.Needs.{Needs}

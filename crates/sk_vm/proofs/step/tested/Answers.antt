@@ -1,7 +1,7 @@
 use Rattle.std.proofs.Common.{rules, ◌≡◌, ◌-◌, ◌∙◌, sym, ap, pos, suc, ℕ, FitsSigned, w64, slice_index_or, to_z, of_z, arith}
 use Rattle.std.proofs.lemmas.Int.{to_z-of_z}
 use Rattle.std.specs.Prelude.{if◌then◌else◌}
-use Rattle.sk_tree.specs.Expressions.{holds}
+use Rattle.sk_meaning.specs.Expressions.{holds}
 use Rattle.sk_vm.specs.declared.step.Lead.TheVariants.{Goes}
 use Rattle.sk_vm.proofs.Arms.{taken, not_taken}
 use Rattle.sk_vm.proofs.Values.{last-is}

@@ -1,5 +1,5 @@
 use Rattle.std.proofs.Common.{reverse, ◌∙◌, ap}
-use Rattle.sk_tree.specs.Bindings.{bound_to}
+use Rattle.sk_names.specs.Bindings.{bound_to}
 use Rattle.sk_scopes.specs.Scopes.{found_in}
 use Rattle.sk_scopes.proofs.Tidy.{tidy-finds}
 use Rattle.sk_scopes.proofs.scopes.Scopes.find.Goals as goal

@@ -1,5 +1,5 @@
 use Rattle.std.proofs.Common.{◌++◌, [], ◌∷◌, List, ◌∙◌, ap}
-use Rattle.sk_tree.specs.Inputs.{input_named}
+use Rattle.sk_typing.specs.Inputs.{input_named}
 use Rattle.sk_tree.specs.declared.declared.Declared.{Declared}
 use Rattle.sk_types.proofs.FoundLemmas.{added}
 use Rattle.sk_types.proofs.inputs.Inputs.add.Goals as goal

@@ -1,6 +1,6 @@
 use Rattle.std.proofs.Common.{◌∙◌, ap}
 use Rattle.std.specs.Option.{option_map}
-use Rattle.sk_tree.specs.Inputs as inputs
+use Rattle.sk_typing.specs.Inputs as inputs
 use Rattle.sk_types.proofs.FoundLemmas.{find_is}
 use Rattle.sk_types.proofs.inputs.Inputs.find.Goals as goal
 

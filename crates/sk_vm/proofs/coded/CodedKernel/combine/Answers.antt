@@ -4,7 +4,7 @@ use Rattle.std.specs.Prelude.{Option}
 use Rattle.sk_base.specs.Arithmetic.{InRange}
 use Rattle.sk_isa.specs.Instances.{operator_place, operator_type, signature_at}
 use Rattle.sk_isa.specs.Soundness.{SuitParams}
-use Rattle.sk_tree.specs.Evaluation.{Value}
+use Rattle.sk_meaning.specs.Evaluation.{Value}
 use Rattle.sk_vm.specs.Frames.{Framed}
 use Rattle.sk_vm.specs.Instantiated.{Instantiated, RunsOperator}
 use Rattle.sk_vm.proofs.Lawful.{frame_operands}

@@ -1,6 +1,0 @@
-use Rattle.std.proofs.Common.{◌≡◌, ◌++◌, drop}
-use Rattle.sk_isa.specs.Scheme.{kinds_of}
-use Rattle.sk_codegen.proofs.functions.kinds.Given as goal
-
-abbrev pub invariant-loop-param : goal.invariant-loop-param
-invariant-loop-param l = l.kinds.items ++ kinds_of (drop l.param-index l.params) ≡ kinds_of l.params

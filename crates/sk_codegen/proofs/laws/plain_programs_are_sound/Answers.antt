@@ -1,5 +1,0 @@
-use Rattle.sk_codegen.proofs.SoundObjects.{plain_is_sound, plain_takes_scalars}
-use Rattle.sk_codegen.proofs.laws.plain_programs_are_sound.Goals as goal
-
-pub returns : goal.returns
-returns c = record { sound = plain_is_sound; scalars = plain_takes_scalars }

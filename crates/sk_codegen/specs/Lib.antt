@@ -1,6 +1,0 @@
-pub mod Means
-pub mod Names
-pub mod Plain
-pub mod PlainLaws
-pub mod SourceRuns
-pub mod Written

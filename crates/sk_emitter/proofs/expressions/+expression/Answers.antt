@@ -1,0 +1,114 @@
+use Rattle.std.proofs.Common.{◌≡◌, ◌+◌, ◌∙◌, sym, ap, ◌∷◌, ◌++◌, List, length, drop, map, max, Option, arith, add-one, subst, rules}
+use Rattle.std.proofs.lemmas.List.{length-map}
+use Rattle.std.specs.Option.{option_map}
+use Rattle.sk_tree.specs.declared.tree.Expr.{Expr}
+use Rattle.sk_scheme.specs.Scheme.{compiled_of, applied_code, arguments_code, parts_depth, kinds_of}
+use Rattle.std.specs.Prelude.{slice_set}
+use Rattle.sk_isa.specs.declared.code.Instr.TheVariants.{Zero, Jump}
+use Rattle.sk_emitter.specs.Names.{slot_of, callee_of, argument_code}
+use Rattle.sk_emitter.specs.declared.names.Place.{Place}
+use Rattle.sk_emitter.proofs.Lists.{left_cons}
+use Rattle.sk_emitter.proofs.Arguments.{arguments-none, arguments-more, element_applied, depth_more}
+use Rattle.sk_emitter.proofs.Filled.{behind_one, behind_two, behind_three, both_filled, choice_filled, either_filled}
+use Rattle.sk_emitter.proofs.expressions.+expression.Goals as goal
+
+pub apply-returns-in_ok-element-in-Some-clause-code : goal.apply-returns-in_ok-element-in-Some-clause-code
+apply-returns-in_ok-element-in-Some-clause-code t c =
+    element_applied c.in-Some.place.number c.in-Some.place.kind (option_map callee_of c.args.callee) (map compiled_of c.args.parts.now) c.args.names.now
+    c.args.code.now.items c.arguments.new.code.items c.element.new.code.items (length c.args.parts.now)
+    (sym (length-map c.args.parts.now compiled_of)) c.in_ok-depth-in-Some.ensures.code c.in_ok-element-in-Some.ensures
+    ∙ ap (λ (place : Option Place). c.args.code.now.items
+    ++ applied_code (option_map slot_of place) (option_map callee_of c.args.callee) (map compiled_of c.args.parts.now) c.args.names.now (length c.args.code.now.items))
+    (sym c.in-Some.is)
+
+pub apply-returns-in_ok-depth-in-None-callee-clause-code : goal.apply-returns-in_ok-depth-in-None-callee-clause-code
+apply-returns-in_ok-depth-in-None-callee-clause-code t c =
+    rw (c.in-None.is, c.in-None-callee.is)
+    (c.in_ok-depth-in-None-callee.ensures.code
+    ∙ ap (λ rest. c.args.code.now.items ++ rest) (arguments-none (map compiled_of c.args.parts.now) c.args.names.now (length c.args.code.now.items)))
+
+pub arguments-loop-i-preserved : goal.arguments-loop-i-preserved
+arguments-loop-i-preserved t c =
+    let old = c.loop-i.code.items in
+    let around = c.args.names.now in
+    let kinds = kinds_of c.args.params.now in
+    let part = c.index-parts-i.result in
+    let first : drop c.loop-i.i c.args.parts.now ≡ part ∷ drop (c.loop-i.i + 1) c.args.parts.now =
+    left_cons c.args.parts.now c.loop-i.i part (omega arith) c.index-parts-i.is in
+    let P : List Expr → Type 0 = λ left. max c.loop-i.depth (c.loop-i.i + parts_depth (map compiled_of left)) ≡ parts_depth (map compiled_of c.args.parts.now) in
+    let deepest : c.max-depth.result ≡ max c.loop-i.depth c.in_ok-sum.field-0 = search rules in (
+      arguments-more kinds c.loop-i.i (c.loop-i.i + 1) (compiled_of part) (map compiled_of (drop (c.loop-i.i + 1) c.args.parts.now)) around
+          old c.argument.new.code.items (add-one c.loop-i.i)
+          (c.in_ok-own.ensures.code ∙ ap (λ kind. old ++ argument_code kind (compiled_of part) around (length old)) c.kind_at.ensures)
+          ∙ ap (λ (left : List Expr). old ++ arguments_code (drop c.loop-i.i kinds) (map compiled_of left) around (length old)) (sym first)
+          ∙ c.loop-i.invariant.0,
+      depth_more c.loop-i.depth c.loop-i.i (compiled_of part).depth (parts_depth (map compiled_of (drop (c.loop-i.i + 1) c.args.parts.now)))
+          (parts_depth (map compiled_of c.args.parts.now)) c.max-depth.result
+          (deepest ∙ ap (λ n. max c.loop-i.depth n) (c.in_ok-sum.ensures ∙ ap (λ n. c.loop-i.i + n) c.in_ok-own.ensures.depth))
+          (subst P first c.loop-i.invariant.1),
+    )
+
+pub both-returns-clause-code : goal.both-returns-clause-code
+both-returns-clause-code t c =
+    let base = c.args.code.now.items in
+    let around = c.args.names.now in
+    let left = (compiled_of c.args.left.now).code around in
+    let right = (compiled_of c.args.right.now).code around in
+    let one = left (length base) in
+    let at : length c.room.new.code.items ≡ length base + length one + 1 =
+    behind_one base one c.expression.new.code.items c.room.new.code.items _ c.in_ok-one.ensures.code c.in_ok-first.ensures.code in
+    c.fill-2.ensures ∙ ap (λ l. slice_set l c.in_ok-second.second (Zero c.in_ok-fails.fails)) c.fill.ensures
+    ∙ both_filled base one (right (length base + length one + 1)) c.expression.new.code.items c.room.new.code.items c.expression-2.new.code.items
+    c.room-2.new.code.items c.flags.new.code.items c.in_ok-first.first c.in_ok-second.second c.in_ok-fails.fails c.in_ok-ends.ends
+    c.in_ok-one.ensures.code c.in_ok-first.ensures.place c.in_ok-first.ensures.code
+    (c.in_ok-other.ensures.code ∙ ap (λ n. c.room.new.code.items ++ right n) at)
+    c.in_ok-second.ensures.place c.in_ok-second.ensures.code
+    (omega (arith, c.in_ok-fails.ensures, c.len.ensures, c.room-2.new.code.ok.0))
+    (omega (arith, c.in_ok-ends.ensures, c.len-2.ensures, c.room-2.new.code.ok.0))
+    c.in_ok-flags.ensures
+
+pub choose-returns-clause-code : goal.choose-returns-clause-code
+choose-returns-clause-code t c =
+    let base = c.args.code.now.items in
+    let around = c.args.names.now in
+    let test = (compiled_of c.args.test.now).code around in
+    let left = (compiled_of c.args.one.now).code around in
+    let right = (compiled_of c.args.other.now).code around in
+    let first = test (length base) in
+    let at : length c.room.new.code.items ≡ length base + length first + 1 =
+    behind_one base first c.expression.new.code.items c.room.new.code.items _ c.in_ok-first.ensures.code c.in_ok-fails.ensures.code in
+    let second = left (length base + length first + 1) in
+    let placed : c.expression-2.new.code.items ≡ c.room.new.code.items ++ second =
+    c.in_ok-second.ensures.code ∙ ap (λ n. c.room.new.code.items ++ left n) at in
+    let third : length c.room-2.new.code.items ≡ length base + length first + length second + 2 =
+    behind_two base first second c.expression.new.code.items c.room.new.code.items c.expression-2.new.code.items c.room-2.new.code.items _ _
+    c.in_ok-first.ensures.code c.in_ok-fails.ensures.code placed c.in_ok-jump.ensures.code in
+    c.fill-2.ensures ∙ ap (λ l. slice_set l c.in_ok-jump.jump (Jump c.in_ok-ends.ends)) c.fill.ensures
+    ∙ choice_filled base first second (right (length base + length first + length second + 2))
+    c.expression.new.code.items c.room.new.code.items c.expression-2.new.code.items c.room-2.new.code.items c.expression-3.new.code.items
+    c.in_ok-fails.fails c.in_ok-jump.jump c.in_ok-third.third c.in_ok-ends.ends
+    c.in_ok-first.ensures.code c.in_ok-fails.ensures.place c.in_ok-fails.ensures.code placed c.in_ok-jump.ensures.place c.in_ok-jump.ensures.code
+    (omega (arith, c.in_ok-third.ensures, c.len.ensures, c.room-2.new.code.ok.0))
+    (c.in_ok-last.ensures.code ∙ ap (λ n. c.room-2.new.code.items ++ right n) third)
+    (omega (arith, c.in_ok-ends.ensures, c.len-2.ensures, c.expression-3.new.code.ok.0))
+
+pub either-returns-clause-code : goal.either-returns-clause-code
+either-returns-clause-code t c =
+    let base = c.args.code.now.items in
+    let around = c.args.names.now in
+    let left = (compiled_of c.args.left.now).code around in
+    let right = (compiled_of c.args.right.now).code around in
+    let one = left (length base) in
+    let at : length c.room.new.code.items ≡ length base + length one + 3 =
+    behind_three base one c.expression.new.code.items c.put.new.code.items c.put-2.new.code.items c.room.new.code.items _ _ _
+    c.in_ok-one.ensures.code c.in_ok-put.ensures c.in_ok-put-2.ensures c.in_ok-holds.ensures.code in
+    c.fill.ensures
+    ∙ either_filled base one (right (length base + length one + 3)) c.expression.new.code.items c.put.new.code.items c.put-2.new.code.items
+    c.room.new.code.items c.expression-2.new.code.items c.put-3.new.code.items c.flags.new.code.items
+    c.in_ok-second.second c.in_ok-holds.holds c.in_ok-fails.fails c.in_ok-ends.ends
+    c.in_ok-one.ensures.code (omega (arith, c.in_ok-second.ensures, c.len.ensures, c.expression.new.code.ok.0))
+    c.in_ok-put.ensures c.in_ok-put-2.ensures c.in_ok-holds.ensures.place c.in_ok-holds.ensures.code
+    (c.in_ok-other.ensures.code ∙ ap (λ n. c.room.new.code.items ++ right n) at)
+    (omega (arith, c.in_ok-fails.ensures, c.len-2.ensures, c.expression-2.new.code.ok.0))
+    (omega (arith, c.in_ok-ends.ensures, c.len-3.ensures, c.expression-2.new.code.ok.0))
+    c.in_ok-put-3.ensures c.in_ok-flags.ensures

@@ -1,0 +1,64 @@
+ghost use Rattle.std.specs.Prelude.{◌≡◌};
+ghost use Rattle.sk_meaning.specs.Evaluation as evaluation;
+ghost use Rattle.sk_meaning.specs.Expressions as expressions;
+
+use sk_base::{Op, Ty};
+use sk_tree::{ParamKind, Un};
+
+/// `long` where either side is.
+pub(crate) fn wider(left: Ty, right: Ty) -> Ty
+    ensures { result ≡ expressions.wider left right }
+{
+    match left {
+        Ty::Int => right,
+        Ty::Long => Ty::Long,
+    }
+}
+
+/// The type in which an operator computes.
+pub(crate) fn operation_type(op: Op, left: Ty, right: Ty) -> Ty
+    ensures { result ≡ expressions.operation_type op left right }
+{
+    match op {
+        Op::Shl => left,
+        Op::Shr => left,
+        _ => wider(left, right),
+    }
+}
+
+/// The type of an operator's value.
+pub(crate) fn result_type(op: Op, left: Ty, right: Ty) -> Ty
+    ensures { result ≡ expressions.result_type op left right }
+{
+    match op {
+        Op::Lt => Ty::Int,
+        Op::Le => Ty::Int,
+        Op::Gt => Ty::Int,
+        Op::Ge => Ty::Int,
+        Op::Eq => Ty::Int,
+        Op::Ne => Ty::Int,
+        _ => operation_type(op, left, right),
+    }
+}
+
+/// The type of a prefix's value.
+pub(crate) fn prefix_type(op: Un, ty: Ty) -> Ty
+    ensures { result ≡ expressions.prefix_type op ty }
+{
+    match op {
+        Un::Not => Ty::Int,
+        _ => ty,
+    }
+}
+
+/// The type of a scalar, or of an element.
+pub(crate) fn kind_type(kind: ParamKind) -> Ty
+    ensures { result ≡ evaluation.kind_type kind }
+{
+    match kind {
+        ParamKind::Scalar(ty) => ty,
+        ParamKind::Index(_) => Ty::Int,
+        ParamKind::Proxy(_, ty) => ty,
+        ParamKind::Region(_, ty) => ty,
+    }
+}

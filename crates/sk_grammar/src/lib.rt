@@ -1,0 +1,10 @@
+//! The grammar: how programs are written down in tokens, and the limits that they keep.
+//!
+//! - `infix`: operators between two operands, and how tightly they bind.
+//!
+//! Which trees a list of tokens reads as is a definition of `specs/`.
+#![tactic(auto)]
+
+mod infix;
+
+pub use infix::Infix;

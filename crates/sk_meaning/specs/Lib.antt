@@ -1,0 +1,4 @@
+pub mod Evaluation
+pub mod EvaluationLaws
+pub mod Expressions
+pub mod Formula

@@ -1,0 +1,2 @@
+//! What expressions, user functions and skeletons compute: definitions alone, in `specs/`.
+#![tactic(auto)]

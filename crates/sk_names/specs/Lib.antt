@@ -1,0 +1,5 @@
+pub mod Bindings
+pub mod BindingsLaws
+pub mod Bytes
+pub mod BytesLaws
+pub mod Words

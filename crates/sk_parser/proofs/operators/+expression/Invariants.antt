@@ -1,4 +1,0 @@
-use Rattle.sk_parser.proofs.operators.+expression.Given as goal
-
-abbrev pub decreases-expression : goal.decreases-expression
-decreases-expression l = l.left

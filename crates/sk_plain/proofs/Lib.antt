@@ -1,0 +1,6 @@
+pub mod Bindings
+pub mod Lists
+pub mod Parameters
+pub mod Parts
+pub mod PlainParts
+pub mod Truths

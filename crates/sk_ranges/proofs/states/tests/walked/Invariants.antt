@@ -1,5 +1,0 @@
-use Rattle.std.proofs.Common.{◌-◌}
-use Rattle.sk_ranges.proofs.states.tests.walked.Given as goal
-
-abbrev pub decreases-runs : goal.decreases-runs
-decreases-runs l = l.end - l.lo

@@ -1,0 +1,4 @@
+pub mod ParsesAs
+pub mod Inner
+pub mod InnerPart
+pub mod Inside

@@ -1,0 +1,4 @@
+pub mod Programs
+pub mod Steps
+pub mod expressions
+pub mod statements

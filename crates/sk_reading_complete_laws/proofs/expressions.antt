@@ -1,0 +1,4 @@
+pub mod Chains
+pub mod Ends
+pub mod Readable
+pub mod Starts

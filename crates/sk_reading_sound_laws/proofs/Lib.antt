@@ -1,0 +1,5 @@
+pub mod Commas
+pub mod Programs
+pub mod Steps
+pub mod expressions
+pub mod statements

@@ -1,0 +1,2 @@
+//! Which code a program has: definitions alone, in `specs/`.
+#![tactic(auto)]

@@ -1,0 +1,13 @@
+pub mod Agreement
+pub mod Calls
+pub mod Choices
+pub mod ExpressionNodes
+pub mod ExpressionRuns
+pub mod Flows
+pub mod FunctionRuns
+pub mod Loops
+pub mod MeansSource
+pub mod Returns
+pub mod Runs
+pub mod StatementNodes
+pub mod StatementRuns

@@ -1,0 +1,12 @@
+pub mod Each
+pub mod SoundBodies
+pub mod SoundExpressions
+pub mod SoundFrames
+pub mod SoundFunctions
+pub mod SoundJumps
+pub mod SoundObjects
+pub mod SoundParts
+pub mod SoundPieces
+pub mod SoundScopes
+pub mod SoundStatements
+pub mod SoundValues

@@ -1,0 +1,11 @@
+pub mod Comments
+pub mod Longest
+pub mod Numbers
+pub mod Parts
+pub mod Pieces
+pub mod Prefixes
+pub mod Progress
+pub mod Signs
+pub mod Steps
+pub mod Strings
+pub mod Words

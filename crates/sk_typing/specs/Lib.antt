@@ -1,0 +1,7 @@
+pub mod Inputs
+pub mod Typing
+pub mod TypingExpressions
+pub mod TypingFaults
+pub mod TypingInstances
+pub mod TypingNames
+pub mod TypingStatements

@@ -1,0 +1,15 @@
+-- Functions that the machine may enter.
+use Rattle.std.specs.Prelude.{ℕ, ◌<◌, length}
+use Rattle.sk_isa.specs.Soundness.{IsSound, TakesScalars}
+use Rattle.sk_isa.specs.declared.object.Object.{Object}
+
+-- a function of a compiled program, by its number
+pub record Entered : Type 0 where
+  pub object : Object
+  pub function : ℕ
+
+-- The program is sound, its functions take scalars alone, and the function is one of them.
+pub record MayEnter (entry : Entered) : Type 0 where
+  pub sound : IsSound entry.object
+  pub scalars : TakesScalars entry.object
+  pub there : entry.function < length entry.object.functions

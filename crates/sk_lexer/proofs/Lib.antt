@@ -1,3 +1,3 @@
-pub mod Fronts
+pub mod StringFronts
 pub mod PlaceLemmas
 pub mod Reached

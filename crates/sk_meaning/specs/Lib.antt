@@ -1,4 +1,3 @@
 pub mod Evaluation
 pub mod EvaluationLaws
 pub mod Expressions
-pub mod Formula

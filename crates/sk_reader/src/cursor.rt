@@ -9,9 +9,9 @@ ghost use Rattle.sk_reader.specs.declared.fault.ParseFault.TheVariants.{Memory};
 
 use crate::fault::{Limited, ParseFault};
 use crate::keyword::keyword_of;
-use crate::meaning::meant;
 use crate::next::{is_keyword, is_sign, is_type, next_of};
 use sk_base::{Cell, Ty};
+use sk_grammar::meant;
 use sk_names::{Name, Text};
 use sk_reading::{Keyword, Next};
 use sk_tokens::{Sign, Token, TokenKind};

@@ -6,9 +6,9 @@ ghost use Rattle.sk_reading.specs.ReadingPrograms as spec;
 
 use crate::cursor::Cursor;
 use crate::fault::{Limited, ParseFault};
-use crate::meaning::meant;
 use crate::statement::block;
 use sk_base::Ty;
+use sk_grammar::meant;
 use sk_reading::{Keyword, Next, View};
 use sk_tokens::Sign;
 use sk_tree::{Function, Param, ParamKind};

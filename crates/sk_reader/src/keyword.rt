@@ -1,7 +1,7 @@
 ghost use Rattle.std.specs.Prelude.{◌≡◌};
 ghost use Rattle.sk_reading.specs.Reading.{keyword_of};
 
-use crate::meaning::meant;
+use sk_grammar::meant;
 use sk_reading::Keyword;
 
 static KEYWORDS: [(&[u8], Keyword); 11] = [

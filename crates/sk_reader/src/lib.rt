@@ -1,7 +1,7 @@
 //! From tokens to functions: the code, which reads what the definitions of `sk_reading` read.
 //!
 //! - `fault`: why a list of tokens is not read.
-//! - `keyword`, `meaning`, `same`: reserved words, words of a table, and equality.
+//! - `keyword`, `same`: reserved words, and equality.
 //! - `next`: what a token is, apart from what it holds.
 //! - `cursor`: how far a list of tokens is read, and what has been counted.
 //! - `expression`, `operators`: expressions.
@@ -20,7 +20,6 @@ mod fault;
 mod forms;
 mod function;
 mod keyword;
-mod meaning;
 mod next;
 mod operators;
 mod plain;

@@ -3,25 +3,17 @@ use Rattle.std.proofs.Common.{◌≡◌, ℕ, Bool, true, false, cond, ◌==◌,
 use Rattle.std.proofs.lemmas.Bool.{and_parts}
 use Rattle.sk_grammar.specs.ExpressionSpelling.{each}
 use Rattle.sk_names.specs.Bytes.{same_bytes}
+use Rattle.sk_names.specs.BytesLaws.{same_bytes-true}
 use Rattle.sk_grammar.specs.Signs.{meant_by}
 
 -- ---- the word of a meaning
-
-same-bytes : (a b : List ℕ) → same_bytes a b ≡ true → a ≡ b
-same-bytes [] [] h = refl
-same-bytes [] (y ∷ b) h = absurd (cc)
-same-bytes (x ∷ a) [] h = absurd (cc)
-same-bytes (x ∷ a) (y ∷ b) h =
-    let (here, later) = and_parts (x == y) (same_bytes a b) h in
-    let head : x ≡ y = search (rules, here) in
-    ap (λ z. z ∷ a) head ∙ ap (λ c. y ∷ c) (same-bytes a b later)
 
 pub meant-first : {A : Type 0} (entry : List ℕ × A) (entries : List (List ℕ × A)) (w : List ℕ) (a : A) → meant_by (entry ∷ entries) w ≡ Some a
     → ((w ≡ entry.0) × (a ≡ entry.1)) ⊎ (meant_by entries w ≡ Some a)
 meant-first {A} entry entries w a h = go (same_bytes entry.0 w) refl h
   where
     go : (b : Bool) → same_bytes entry.0 w ≡ b → cond b (Some entry.1) (meant_by entries w) ≡ Some a → ((w ≡ entry.0) × (a ≡ entry.1)) ⊎ (meant_by entries w ≡ Some a)
-    go true is h = let same : a ≡ entry.1 = cc in inl (sym (same-bytes entry.0 w is), same)
+    go true is h = let same : a ≡ entry.1 = cc in inl (sym (same_bytes-true entry.0 w is), same)
     go false is h = inr h
 
 -- each word by what it means

@@ -5,8 +5,8 @@ ghost use Rattle.sk_select.specs.Fields.{whole_of, fields_checked, is_field, num
 ghost use Rattle.serde_json.specs.View.{view};
 
 use crate::fault::{FieldName, TableFault};
-use crate::words::meant;
 use serde_json::{Map, Value};
+use sk_grammar::meant;
 
 /// The whole numbers of a table are below this.
 const END_OF_NUMBERS: u64 = 1 << 63;

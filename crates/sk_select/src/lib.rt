@@ -2,7 +2,6 @@
 //!
 //! - `fault`: why a table is refused, and the names of its fields.
 //! - `tuning`: what a table says.
-//! - `words`: what a word of a list stands for.
 //! - `field`: the fields of a JSON value, one by one.
 //! - `rule`: one rule.
 //! - `reading`: a whole table, read from its bytes.
@@ -15,7 +14,6 @@ mod field;
 mod reading;
 mod rule;
 mod tuning;
-mod words;
 
 pub use choice::choose;
 pub use fault::{FieldName, TableFault};

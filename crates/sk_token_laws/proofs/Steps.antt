@@ -14,7 +14,3 @@ tokens_from-passed fewer before (byte ∷ rest) n some passed = rw (passed, toke
 pub tokens_from-found : (fewer : ℕ) (before rest : List ℕ) (n : ℕ) (kind : TokenKind) → 0 < length rest → piece_at (is_line_start before) rest ≡ Found n kind → tokens_from (suc fewer) before rest ≡ with_token (record { what = kind; line = line_after before }) (tokens_from fewer (before ++ take n rest) (drop n rest))
 tokens_from-found fewer before [] n kind some found = absurd (omega arith)
 tokens_from-found fewer before (byte ∷ rest) n kind some found = rw (found, tokens_from) refl
-
-pub tokens_from-faulty : (fewer : ℕ) (before rest : List ℕ) (fault : ℕ → TokenFault) → 0 < length rest → piece_at (is_line_start before) rest ≡ Faulty fault → tokens_from (suc fewer) before rest ≡ Err (fault (length before))
-tokens_from-faulty fewer before [] fault some faulty = absurd (omega arith)
-tokens_from-faulty fewer before (byte ∷ rest) fault some faulty = rw (faulty, tokens_from) refl

@@ -3,7 +3,7 @@ use Rattle.std.proofs.Common.{◌≡◌, ℕ, ℤ, List, map}
 use Rattle.sk_base.specs.declared.number.Op.{Op}
 use Rattle.sk_base.specs.declared.number.Ty.{Ty}
 use Rattle.sk_tree.specs.declared.tree.Un.{Un}
-use Rattle.sk_tree.specs.declared.tree.Expr.{Expr, Expr-F, roll-Expr, map-Expr, fold-Expr, fold-roll-Expr}
+use Rattle.sk_tree.specs.declared.tree.Expr.{Expr, Expr-F, fold-Expr, fold-roll-Expr}
 use Rattle.sk_tree.specs.declared.tree.Expr.TheVariants as expression
 use Rattle.sk_tree.specs.declared.tree.Expr.TheOpen as layer
 use Rattle.sk_tree.specs.declared.tree.Statement.{Statement, Statement-F, rolls-Statement', fold-Statement, fold-roll-Statement}

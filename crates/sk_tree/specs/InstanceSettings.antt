@@ -1,5 +1,5 @@
 -- The settings of a skeleton instance.
-use Rattle.std.specs.Prelude.{false, ℤ, pos, None}
+use Rattle.std.specs.Prelude.{false, pos, None}
 use Rattle.sk_base.specs.declared.choice.EdgeMode.TheVariants.{Duplicate}
 use Rattle.sk_tree.specs.declared.settings.Settings.{Settings}
 

@@ -1,5 +1,5 @@
 -- Which functions and numbers an instance of a skeleton is made of.
-use Rattle.std.specs.Prelude.{ℕ, ◌==◌, nat_le, Bool, true, false, not, ◌&&◌, List, [], ◌∷◌, ℤ, nat_abs, Some, None, is_none}
+use Rattle.std.specs.Prelude.{ℕ, ◌==◌, nat_le, Bool, true, false, not, ◌&&◌, List, [], ◌∷◌, ℤ, nat_abs, Option, Some, None, is_none}
 use Rattle.std.specs.List.{list_any}
 use Rattle.sk_base.specs.declared.number.Ty.{Ty}
 use Rattle.sk_tree.specs.Parameters.{is_region, same_type, leading_scalars, index_dimension, index_fits, region_of}
@@ -62,3 +62,20 @@ elements_of MapReduce (count ∷ more) kinds = nat_abs count
 elements_of MapPairs numbers kinds = 2
 elements_of MapPairsReduce numbers kinds = 2
 elements_of skeleton numbers kinds = 0
+
+-- which of an instance's functions is its operator, if any
+abbrev pub operator_place : Skeleton → Option ℕ
+operator_place Reduce = Some 0
+operator_place Scan = Some 0
+operator_place MapReduce = Some 1
+operator_place MapPairsReduce = Some 1
+operator_place Map = None
+operator_place MapOverlap = None
+operator_place MapPairs = None
+operator_place Call = None
+
+-- the skeletons that go over pairs of elements
+abbrev pub is_over_pairs : Skeleton → Bool
+is_over_pairs MapPairs = true
+is_over_pairs MapPairsReduce = true
+is_over_pairs skeleton = false

@@ -1,7 +1,7 @@
 use Rattle.std.proofs.Common.{Some, None, refl, sym, arith}
 use Rattle.std.proofs.lemmas.List.{take_rest}
 use Rattle.sk_token_laws.proofs.Strings.{token_at-no_string, token_at-string, token_at-long_string}
-use Rattle.sk_lexer.proofs.Fronts.{body_only, body_within}
+use Rattle.sk_lexer.proofs.StringFronts.{body_only, body_within}
 use Rattle.sk_lexer.proofs.string.string.Goals as goal
 
 pub returns-in-None : goal.returns-in-None

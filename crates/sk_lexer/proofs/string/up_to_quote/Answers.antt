@@ -1,6 +1,6 @@
 use Rattle.std.proofs.lemmas.List.{take_rest}
 use Rattle.sk_token_laws.proofs.Strings.{closes-never}
-use Rattle.sk_lexer.proofs.Fronts.{HasRead-none, HasRead-more, closes, closing-foreign, closing-end}
+use Rattle.sk_lexer.proofs.StringFronts.{HasRead-none, HasRead-more, closes, closing-foreign, closing-end}
 use Rattle.sk_lexer.proofs.string.up_to_quote.Goals as goal
 
 pub loop-at-init : goal.loop-at-init

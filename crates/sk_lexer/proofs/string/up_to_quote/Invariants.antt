@@ -1,5 +1,5 @@
 use Rattle.std.proofs.Common.{◌-◌, length}
-use Rattle.sk_lexer.proofs.Fronts.{HasRead}
+use Rattle.sk_lexer.proofs.StringFronts.{HasRead}
 use Rattle.sk_lexer.proofs.string.up_to_quote.Given as goal
 
 abbrev pub invariant-loop-at : goal.invariant-loop-at

@@ -2,8 +2,8 @@ use Rattle.std.proofs.Common.{◌≡◌, Some, None, ◌∙◌, rules, tests}
 use Rattle.std.proofs.lemmas.Iterator.{YieldsList-from_slice}
 use Rattle.std.proofs.lemmas.Iterator.Search.{find_from_yields_List}
 use Rattle.sk_names.specs.Bytes.{same_bytes}
-use Rattle.sk_select.proofs.WordLemmas.{meant-found}
-use Rattle.sk_select.proofs.words.meant.Goals as goal
+use Rattle.sk_grammar.proofs.WordLemmas.{meant-found}
+use Rattle.sk_grammar.proofs.words.meant.Goals as goal
 
 pub returns-in_err-entry : goal.returns-in_err-entry
 returns-in_err-entry g c =

@@ -1,8 +1,9 @@
 -- What a function is given at a place, by its parameters, and which cells it may read there.
-use Rattle.std.specs.Prelude.{ℕ, zero, suc, ◌==◌, Bool, true, false, ◌&&◌, if◌then◌else◌, List, [], ◌∷◌, ◌++◌, map, ℤ, pos, Option, Some, None, Result, Ok, Err, slice_get, slice_index_or, unwrap_or}
+use Rattle.std.specs.Prelude.{ℕ, zero, suc, ◌==◌, nat_lt, Bool, true, false, ◌&&◌, if◌then◌else◌, List, [], ◌∷◌, ◌++◌, map, ℤ, pos, Option, Some, None, Result, Ok, Err, slice_get, slice_index_or, unwrap_or}
 use Rattle.sk_base.specs.Shape.{cells_of, flat_of}
 use Rattle.sk_base.specs.declared.number.Trap.{Trap}
 use Rattle.sk_base.specs.declared.number.Trap.TheVariants.{Index as OutOfRange}
+use Rattle.sk_base.specs.declared.number.Ty.{Ty}
 use Rattle.sk_arguments.specs.Places.{coordinates_of, are_near, neighbour_of, are_reached}
 use Rattle.sk_meaning.specs.Evaluation.{Argument, Value, Place, Whole, Neighbours}
 use Rattle.sk_tree.specs.declared.settings.Settings.{Settings}
@@ -49,9 +50,9 @@ place_of reading given at =
     if reading.pairs then at.place ∷ at.pair ∷ [] else coordinates_of (unwrap_or given.over []) at.place
 
 -- how far a region of so many directions reaches in each
-abbrev pub overlaps_of : (dimension : ℕ) → Settings → List ℕ
-overlaps_of (suc zero) settings = settings.overlap.0 ∷ []
-overlaps_of dimension settings = settings.overlap.0 ∷ settings.overlap.1 ∷ []
+abbrev pub reach_of : (dimension : ℕ) → Settings → List ℕ
+reach_of (suc zero) settings = settings.overlap.0 ∷ []
+reach_of dimension settings = settings.overlap.0 ∷ settings.overlap.1 ∷ []
 
 -- the cell at coordinates, or the pad value where there are none
 abbrev pub padded : Given → (operand : ℕ) → (pad : ℤ) → Option (List ℕ) → ℤ
@@ -76,9 +77,9 @@ first_cells cells (suc count) = first_cells cells count ++ cells count ∷ []
 abbrev pub whole_of : Given → (operand : ℕ) → Argument
 whole_of given operand = Whole (shape_of given operand) (first_cells (given.cells operand) (cells_of (shape_of given operand)))
 
-abbrev pub region_of : Reading → Given → At → (dimension operand : ℕ) → Argument
-region_of reading given at dimension operand =
-    let overlaps : List ℕ = overlaps_of dimension reading.settings in
+abbrev pub neighbours_of : Reading → Given → At → (dimension operand : ℕ) → Argument
+neighbours_of reading given at dimension operand =
+    let overlaps : List ℕ = reach_of dimension reading.settings in
     Neighbours overlaps (neighbour reading.settings given operand at.place overlaps)
 
 -- The arguments for parameters, some having been given theirs before.
@@ -95,7 +96,7 @@ arguments_after reading given at taken (Scalar ty ∷ kinds) = elim taken.elemen
       ∷ arguments_after reading given at (record taken { uniforms = suc taken.uniforms }) kinds
 ]
 arguments_after reading given at taken (Region dimension ty ∷ kinds) =
-    region_of reading given at dimension taken.operands
+    neighbours_of reading given at dimension taken.operands
     ∷ arguments_after reading given at (record taken { operands = suc taken.operands }) kinds
 arguments_after reading given at taken (Proxy dimension ty ∷ kinds) =
     whole_of given taken.operands ∷ arguments_after reading given at (record taken { operands = suc taken.operands }) kinds
@@ -114,12 +115,21 @@ operand_kinds zero (Scalar ty ∷ kinds) = operand_kinds zero kinds
 operand_kinds elements (Region dimension ty ∷ kinds) = Region dimension ty ∷ operand_kinds elements kinds
 operand_kinds elements (Proxy dimension ty ∷ kinds) = Proxy dimension ty ∷ operand_kinds elements kinds
 
+-- the types of the uniform arguments: of the scalars behind the elements
+abbrev pub uniform_types : (elements : ℕ) → List ParamKind → List Ty
+uniform_types elements [] = []
+uniform_types (suc fewer) (Scalar ty ∷ kinds) = uniform_types fewer kinds
+uniform_types zero (Scalar ty ∷ kinds) = ty ∷ uniform_types zero kinds
+uniform_types elements (Index dimension ∷ kinds) = uniform_types elements kinds
+uniform_types elements (Region dimension ty ∷ kinds) = uniform_types elements kinds
+uniform_types elements (Proxy dimension ty ∷ kinds) = uniform_types elements kinds
+
 -- which indices of an operand of a kind may be read at a place
 abbrev pub reads_kind : Reading → (shape : List ℕ) → At → (operand : ℕ) → ParamKind → (index : ℕ) → Bool
 reads_kind reading shape at operand (Scalar ty) index = index == element_index reading at operand
 reads_kind reading shape at operand (Region dimension ty) index =
-    are_reached reading.settings.edge shape (overlaps_of dimension reading.settings) (coordinates_of shape at.place) (coordinates_of shape index)
-reads_kind reading shape at operand (Proxy dimension ty) index = true
+    are_reached reading.settings.edge shape (reach_of dimension reading.settings) (coordinates_of shape at.place) (coordinates_of shape index)
+reads_kind reading shape at operand (Proxy dimension ty) index = nat_lt index (cells_of shape)
 reads_kind reading shape at operand (Index dimension) index = false
 
 -- Which cells a function may read at a place: its elements, what its region can reach, and all of each container that is

@@ -1,5 +1,6 @@
 pub mod Coded
-pub mod Instances
-pub mod Kernels
+pub mod Configurations
+pub mod Objects
+pub mod Offers
+pub mod SoundObjects
 pub mod Soundness
-pub mod Vectors

@@ -1,29 +1,22 @@
 -- Code that never lacks what an instruction needs, and whose loops all take turns.
-use Rattle.std.specs.Prelude.{◌≡◌, ◌^◌, ◌⊎◌, ℕ, suc, ◌<◌, ◌≤◌, Bool, true, false, ◌&&◌, ◌||◌, ◌==◌, nat_le, nat_lt, if◌then◌else◌, List, [], ◌∷◌, length, take, drop, reverse, All, ℤ, pos, negsuc, Option, Some, None, Result, Ok, Err, IsSomeAnd, IsOk, Contains, slice_get, int_le}
+use Rattle.std.specs.Prelude.{◌≡◌, ◌^◌, ◌⊎◌, ℕ, suc, ◌<◌, ◌≤◌, Bool, true, false, ◌&&◌, ◌||◌, ◌==◌, nat_le, nat_lt, if◌then◌else◌, List, [], ◌∷◌, length, take, drop, reverse, All, ℤ, pos, negsuc, Option, Some, None, Result, Ok, Err, IsSomeAnd, slice_get, int_le}
 use Rattle.std.specs.Cmp.Lexicographic.{pointwise}
-use Rattle.std.specs.List.{list_any, list_all}
+use Rattle.std.specs.List.{list_all}
 use Rattle.sk_base.specs.declared.number.Ty.{Ty}
 use Rattle.sk_base.specs.declared.number.Ty.TheVariants.{Int, Long}
-use Rattle.sk_base.specs.declared.choice.Variant.TheVariants.{Sequential}
 use Rattle.sk_base.specs.declared.number.Trap.{Trap}
 use Rattle.sk_base.specs.Arithmetic.{InRange, is_shift}
 use Rattle.sk_base.specs.Shape.{IsShape, cells_of}
-use Rattle.sk_tree.specs.Parameters.{leading_scalars, are_ordered, is_field}
+use Rattle.sk_tree.specs.Parameters.{is_field}
 use Rattle.sk_meaning.specs.Evaluation.{Argument, Value, Place, Whole, Neighbours}
 use Rattle.sk_meaning.specs.Expressions.{result_type}
-use Rattle.sk_tree.specs.Skeletons.{function_count, is_operator, fits_skeleton}
 pub use Rattle.sk_tree.specs.Parameters.{is_scalar}
 use Rattle.sk_tree.specs.declared.tree.ParamKind.{ParamKind}
 use Rattle.sk_tree.specs.declared.tree.ParamKind.TheVariants.{Scalar, Index, Proxy, Region as RegionKind}
-use Rattle.sk_tree.specs.declared.tree.Skeleton.{Skeleton}
-use Rattle.sk_tree.specs.declared.tree.Skeleton.TheVariants as skeleton
 use Rattle.sk_isa.specs.declared.code.Code.{Code}
 use Rattle.sk_isa.specs.declared.code.Instr.{Instr}
-use Rattle.sk_isa.specs.declared.code.Instr.TheVariants.{Push, Pop, Load, Store, Field, Size, Item, Region, Neg, Inv, Not, Wrap, Binary, Jump, Zero, Turn, Call, Ret, Count, Make, Take, Drop, Set, Do, Get, Poke, Print, Text, Endl, Halt}
-use Rattle.sk_isa.specs.declared.object.Object.{Object}
-use Rattle.sk_isa.specs.declared.object.Plan.{Plan}
+use Rattle.sk_isa.specs.declared.code.Instr.TheVariants.{Push, Pop, Load, Store, Field, Item, Region, Neg, Inv, Not, Wrap, Binary, Jump, Zero, Turn, Call, Ret, Halt}
 use Rattle.sk_isa.specs.declared.object.Signature.{Signature}
-use Rattle.sk_isa.specs.Instances.{invoked, is_marked, signature_at, function_at, operator_place}
 
 -- an int serves where a long is wanted
 abbrev pub serves : (given wanted : Ty) → Bool
@@ -130,42 +123,39 @@ left_by_ret ret [] = None
 left_by_ret ret (ty ∷ []) = left_if (serves ty ret) []
 left_by_ret ret (ty ∷ under ∷ rest) = None
 
--- What an instruction of a function leaves. With type int an operator finds ints alone, and with type long either; the
--- count of a shift may be either for both. Those of main alone have no place in a function.
-abbrev pub left_by : Named → Instr → List Ty → Left
-left_by named (Push number) types = left_if (is_number number) (number_type number ∷ types)
-left_by named Pop types = of_one types (λ ty rest. Some rest)
-left_by named (Load slot) types = left_with (scalar_in named slot) types
-left_by named (Store slot) types = of_one types (λ ty rest.
-    elim (scalar_in named slot) [ Some wanted ↦ left_if (serves ty wanted) rest | None ↦ None ])
-left_by named (Field slot name) types = left_if (has_field named slot name) (Int ∷ types)
-left_by named (Item slot places) types = of_many places types (λ given rest. left_with (item_type named slot places) rest)
-left_by named (Region slot places) types = of_many places types (λ given rest. left_with (region_type named slot places) rest)
-left_by named (Neg ty) types = of_one types (λ given rest. left_if (serves given ty) (ty ∷ rest))
-left_by named (Inv ty) types = of_one types (λ given rest. left_if (serves given ty) (ty ∷ rest))
-left_by named Not types = of_one types (λ given rest. Some (Int ∷ rest))
-left_by named Wrap types = of_one types (λ given rest. Some (Int ∷ rest))
-left_by named (Binary op ty) types = of_two types (λ left right rest.
+-- What an instruction leaves that functions and main share, given the types of the scalar slots and what the other
+-- instructions leave. With type int an operator finds ints alone, and with type long either; the count of a shift may be
+-- either for both.
+abbrev pub left_sharing : (scalar : ℕ → Option Ty) → (own : Instr → List Ty → Left) → Instr → List Ty → Left
+left_sharing scalar own (Push number) types = left_if (is_number number) (number_type number ∷ types)
+left_sharing scalar own Pop types = of_one types (λ ty rest. Some rest)
+left_sharing scalar own (Load slot) types = left_with (scalar slot) types
+left_sharing scalar own (Store slot) types = of_one types (λ ty rest.
+    elim (scalar slot) [ Some wanted ↦ left_if (serves ty wanted) rest | None ↦ None ])
+left_sharing scalar own (Neg ty) types = of_one types (λ given rest. left_if (serves given ty) (ty ∷ rest))
+left_sharing scalar own (Inv ty) types = of_one types (λ given rest. left_if (serves given ty) (ty ∷ rest))
+left_sharing scalar own Not types = of_one types (λ given rest. Some (Int ∷ rest))
+left_sharing scalar own Wrap types = of_one types (λ given rest. Some (Int ∷ rest))
+left_sharing scalar own (Binary op ty) types = of_two types (λ left right rest.
     left_if (serves left ty && (is_shift op || serves right ty)) (result_type op ty ty ∷ rest))
-left_by named (Jump to) types = Some types
-left_by named (Zero to) types = of_one types (λ given rest. Some rest)
-left_by named Turn types = Some types
-left_by named (Call function) types =
+left_sharing scalar own (Jump to) types = Some types
+left_sharing scalar own (Zero to) types = of_one types (λ given rest. Some rest)
+left_sharing scalar own instr types = own instr types
+
+-- what the instructions leave that functions have of their own; those of main alone have no place in a function
+abbrev pub left_in_function : Named → Instr → List Ty → Left
+left_in_function named (Field slot name) types = left_if (has_field named slot name) (Int ∷ types)
+left_in_function named (Item slot places) types = of_many places types (λ given rest. left_with (item_type named slot places) rest)
+left_in_function named (Region slot places) types = of_many places types (λ given rest. left_with (region_type named slot places) rest)
+left_in_function named Turn types = Some types
+left_in_function named (Call function) types =
     if nat_lt function named.function then left_by_call (slice_get named.signatures function) types else None
-left_by named Ret types = left_by_ret named.own.ret types
-left_by named (Size container name) types = None
-left_by named (Count line) types = None
-left_by named (Make container kind ty sizes) types = None
-left_by named (Take container kind ty name) types = None
-left_by named (Drop container) types = None
-left_by named (Set instance name values) types = None
-left_by named (Do instance containers uniforms) types = None
-left_by named (Get instance containers uniforms) types = None
-left_by named (Poke container places) types = None
-left_by named Print types = None
-left_by named (Text text) types = None
-left_by named Endl types = None
-left_by named Halt types = None
+left_in_function named Ret types = left_by_ret named.own.ret types
+left_in_function named instr types = None
+
+-- what an instruction of a function leaves
+abbrev pub left_by : Named → Instr → List Ty → Left
+left_by named = left_sharing (scalar_in named) (left_in_function named)
 
 abbrev pub is_there : Option Ty → Bool
 is_there (Some ty) = true
@@ -175,47 +165,43 @@ abbrev pub takes_scalars : Option Signature → Bool
 takes_scalars (Some signature) = list_all is_scalar signature.params
 takes_scalars None = false
 
--- What an instruction names is there and of the right kind, whether the instruction can be reached or not: scalar slots,
--- fields and places of parameters, and functions before this one that take scalars alone. Instructions of main have no
--- place in a function.
-abbrev pub names_what_is_there : Named → Instr → Bool
-names_what_is_there named (Load slot) = is_there (scalar_in named slot)
-names_what_is_there named (Store slot) = is_there (scalar_in named slot)
-names_what_is_there named (Field slot name) = has_field named slot name
-names_what_is_there named (Item slot places) = is_there (item_type named slot places)
-names_what_is_there named (Region slot places) = is_there (region_type named slot places)
-names_what_is_there named (Call function) =
+-- What an instruction names that functions and main share is there and of the right kind, whether the instruction can be
+-- reached or not, given which slots are scalars and what counts for the other instructions.
+abbrev pub names_sharing : (scalar : ℕ → Option Ty) → (own : Instr → Bool) → Instr → Bool
+names_sharing scalar own (Load slot) = is_there (scalar slot)
+names_sharing scalar own (Store slot) = is_there (scalar slot)
+names_sharing scalar own (Push number) = true
+names_sharing scalar own Pop = true
+names_sharing scalar own (Neg ty) = true
+names_sharing scalar own (Inv ty) = true
+names_sharing scalar own Not = true
+names_sharing scalar own Wrap = true
+names_sharing scalar own (Binary op ty) = true
+names_sharing scalar own (Jump to) = true
+names_sharing scalar own (Zero to) = true
+names_sharing scalar own instr = own instr
+
+-- Of the instructions of a function: fields and places of parameters, and functions before this one that take scalars
+-- alone. Instructions of main have no place in a function.
+abbrev pub names_in_function : Named → Instr → Bool
+names_in_function named (Field slot name) = has_field named slot name
+names_in_function named (Item slot places) = is_there (item_type named slot places)
+names_in_function named (Region slot places) = is_there (region_type named slot places)
+names_in_function named (Call function) =
     nat_lt function named.function && takes_scalars (slice_get named.signatures function)
-names_what_is_there named (Push number) = true
-names_what_is_there named Pop = true
-names_what_is_there named (Neg ty) = true
-names_what_is_there named (Inv ty) = true
-names_what_is_there named Not = true
-names_what_is_there named Wrap = true
-names_what_is_there named (Binary op ty) = true
-names_what_is_there named (Jump to) = true
-names_what_is_there named (Zero to) = true
-names_what_is_there named Turn = true
-names_what_is_there named Ret = true
-names_what_is_there named (Size container name) = false
-names_what_is_there named (Count line) = false
-names_what_is_there named (Make container kind ty sizes) = false
-names_what_is_there named (Take container kind ty name) = false
-names_what_is_there named (Drop container) = false
-names_what_is_there named (Set instance name values) = false
-names_what_is_there named (Do instance containers uniforms) = false
-names_what_is_there named (Get instance containers uniforms) = false
-names_what_is_there named (Poke container places) = false
-names_what_is_there named Print = false
-names_what_is_there named (Text text) = false
-names_what_is_there named Endl = false
-names_what_is_there named Halt = false
+names_in_function named Turn = true
+names_in_function named Ret = true
+names_in_function named instr = false
+
+abbrev pub names_what_is_there : Named → Instr → Bool
+names_what_is_there named = names_sharing (scalar_in named) (names_in_function named)
 
 -- the addresses to which an instruction leads
 abbrev pub leads_to : Instr → (at : ℕ) → List ℕ
 leads_to (Jump to) at = to ∷ []
 leads_to (Zero to) at = suc at ∷ to ∷ []
 leads_to Ret at = []
+leads_to Halt at = []
 leads_to instr at = suc at ∷ []
 
 -- the chosen types of the stack at an address, if it is among those that can be reached
@@ -224,35 +210,53 @@ Types = ℕ → Option (List Ty)
 
 -- The instruction at an address finds what it needs, the stack is no higher than the code says, and each address to which
 -- it leads has been chosen with the types that it leaves, or with long in place of some int.
-pub record IsFineAt (named : Named) (code : Code) (chosen : Types) (at : ℕ) (types : List Ty) : Type 0 where
+pub record IsFineAt (effect_of : Instr → List Ty → Left) (code : Code) (chosen : Types) (at : ℕ) (types : List Ty) : Type 0 where
   pub instr : Instr
   pub found : slice_get code.instrs at ≡ Some instr
   pub bounded : length types ≤ code.depth
   pub left : List Ty
-  pub effect : left_by named instr types ≡ Some left
+  pub effect : effect_of instr types ≡ Some left
   pub leads : All (λ to. IsSomeAnd (chosen to) (λ after. pointwise serves left after ≡ true)) (leads_to instr at)
 
 -- One list of types can be chosen for each address that can be reached, the empty one at the first address.
-pub record HasTypes (named : Named) (code : Code) : Type 0 where
+pub record HasTypes (effect_of : Instr → List Ty → Left) (code : Code) : Type 0 where
   pub chosen : Types
   pub start : chosen 0 ≡ Some []
-  pub each : (at : ℕ) (types : List Ty) → chosen at ≡ Some types → IsFineAt named code chosen at types
+  pub each : (at : ℕ) (types : List Ty) → chosen at ≡ Some types → IsFineAt effect_of code chosen at types
 
 -- there is a jump at an address to a target, with or without a test
 abbrev pub JumpsTo : List Instr → (at target : ℕ) → Type 0
 JumpsTo instrs at target = (slice_get instrs at ≡ Some (Jump target)) ⊎ (slice_get instrs at ≡ Some (Zero target))
 
--- On the way from the target of a jump back to the jump stands a turn over which nothing jumps.
-pub record PassesTurn (instrs : List Instr) (at target : ℕ) : Type 0 where
-  pub turn : ℕ
-  pub from : target ≤ turn
-  pub upto : turn ≤ at
-  pub is_turn : slice_get instrs turn ≡ Some Turn
-  pub none_over : (before behind : ℕ) → JumpsTo instrs before behind → before < turn → turn < behind → behind ≤ at → ⊥
+-- On the way from the target of a jump back to the jump stands a mark over which nothing jumps.
+pub record PassesMark (IsMark : Option Instr → Type 0) (instrs : List Instr) (at target : ℕ) : Type 0 where
+  pub mark : ℕ
+  pub from : target ≤ mark
+  pub upto : mark ≤ at
+  pub is_mark : IsMark (slice_get instrs mark)
+  pub none_over : (before behind : ℕ) → JumpsTo instrs before behind → before < mark → mark < behind → behind ≤ at → ⊥
 
--- each way round a loop passes a turn
+-- each way round a loop passes a mark
+abbrev pub LoopsPass : (IsMark : Option Instr → Type 0) → List Instr → Type 0
+LoopsPass IsMark instrs = (at target : ℕ) → JumpsTo instrs at target → target ≤ at → PassesMark IsMark instrs at target
+
+-- the mark of a function's loops: a turn is taken
+abbrev pub IsTurn : Option Instr → Type 0
+IsTurn found = found ≡ Some Turn
+
+-- each way round a loop of a function takes a turn
 abbrev pub LoopsTakeTurns : List Instr → Type 0
-LoopsTakeTurns instrs = (at target : ℕ) → JumpsTo instrs at target → target ≤ at → PassesTurn instrs at target
+LoopsTakeTurns = LoopsPass IsTurn
+
+-- the dimensions that kinds of parameters may have
+abbrev pub is_dimension : (most : ℕ) → ℕ → Bool
+is_dimension most dimension = nat_le 1 dimension && nat_le dimension most
+
+abbrev pub is_kind : ParamKind → Bool
+is_kind (Scalar ty) = true
+is_kind (Index dimension) = is_dimension 4 dimension
+is_kind (Proxy dimension ty) = is_dimension 4 dimension
+is_kind (RegionKind dimension ty) = is_dimension 2 dimension
 
 -- the parameters are the first slots, and the others are scalars
 abbrev pub AreSlots : (params slots : List ParamKind) → Type 0
@@ -266,10 +270,11 @@ AreSlots (param ∷ params) (slot ∷ slots) = (param ≡ slot) × AreSlots para
 
 -- a function's code, by its number
 pub record IsSoundCode (signatures : List Signature) (function : ℕ) (own : Signature) (code : Code) : Type 0 where
-  pub types : HasTypes (record { signatures = signatures; function = function; own = own }) code
+  pub types : HasTypes (left_by (record { signatures = signatures; function = function; own = own })) code
   pub names : list_all (names_what_is_there (record { signatures = signatures; function = function; own = own })) code.instrs ≡ true
   pub loops : LoopsTakeTurns code.instrs
   pub slots : AreSlots own.params own.slots
+  pub kinds : list_all is_kind own.params ≡ true
   pub count : code.slots ≡ length own.slots
   pub params : length own.params ≤ 64
 
@@ -299,57 +304,3 @@ is_container (Proxy dimension ty) = true
 is_container (RegionKind dimension ty) = true
 is_container (Scalar ty) = false
 is_container (Index dimension) = false
-
--- a function marked safe has no proxy and no region among its parameters, and never traps
-pub record IsSafe (object : Object) (function : ℕ) : Type 0 where
-  pub plain : list_any is_container (signature_at object function).params ≡ false
-  pub has_value : (arguments : List Argument) → SuitParams (signature_at object function).params arguments
-      → IsOk (invoked object function arguments)
-
--- how many of a function's parameters a skeleton reads by elements
-abbrev pub takes_elements : Skeleton → (elements : ℕ) → List ParamKind → Bool
-takes_elements skeleton.Map elements kinds = nat_le elements (leading_scalars kinds)
-takes_elements skeleton.MapReduce elements kinds = nat_le 1 elements && nat_le elements (leading_scalars kinds)
-takes_elements skeleton.MapPairs elements kinds = elements == 2
-takes_elements skeleton.MapPairsReduce elements kinds = elements == 2
-takes_elements skeleton.MapOverlap elements kinds = elements == 0
-takes_elements skeleton.Reduce elements kinds = elements == 0
-takes_elements skeleton.Scan elements kinds = elements == 0
-takes_elements skeleton.Call elements kinds = elements == 0
-
--- two scalars of a type, and a value of it
-pub record IsOperator (signature : Signature) (ty : Ty) : Type 0 where
-  pub params : is_operator ty signature.params ≡ true
-  pub ret : signature.ret ≡ ty
-
--- the first function of an instance fits the skeleton
-pub record FitsSkeleton (plan : Plan) (signature : Signature) : Type 0 where
-  pub ordered : are_ordered signature.params ≡ true
-  pub kinds : fits_skeleton plan.skeleton signature.ret signature.params ≡ true
-  pub elements : takes_elements plan.skeleton plan.elements signature.params ≡ true
-
--- an instance whose functions fit its skeleton
-pub record IsSoundPlan (object : Object) (plan : Plan) : Type 0 where
-  pub count : length plan.functions ≡ function_count plan.skeleton
-  pub there : All (λ function. function < length object.functions) plan.functions
-  pub first : FitsSkeleton plan (signature_at object (function_at plan 0))
-  pub operator : (place : ℕ) → operator_place plan.skeleton ≡ Some place
-      → IsOperator (signature_at object (function_at plan place)) (signature_at object (function_at plan 0)).ret
-  pub sequential : Contains plan.variants Sequential
-
--- A compiled program whose functions and instances are sound. Nothing is said yet of main's code, inputs and containers, of
--- names, of operators, and of variants but the sequential one.
-pub record IsSound (object : Object) : Type 0 where
-  pub functions : (function : ℕ) (code : Code) (own : Signature)
-      → slice_get object.functions function ≡ Some code → slice_get object.signatures function ≡ Some own
-      → IsSoundCode object.signatures function own code
-  pub signatures : length object.signatures ≡ suc (length object.functions)
-  pub safe : length object.safe ≡ length object.functions
-  pub operators : length object.operators ≡ length object.functions
-  pub names : length object.names ≡ length object.functions
-  pub marks : (function : ℕ) → is_marked object function ≡ true → IsSafe object function
-  pub instances : All (IsSoundPlan object) object.instances
-
--- no function takes anything but scalars
-abbrev pub TakesScalars : Object → Type 0
-TakesScalars object = All (λ (signature : Signature). list_all is_scalar signature.slots ≡ true) object.signatures

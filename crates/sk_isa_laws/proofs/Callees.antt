@@ -7,7 +7,8 @@ use Rattle.sk_isa.specs.declared.object.Object.{Object}
 use Rattle.sk_isa.specs.declared.object.Signature.{Signature}
 use Rattle.sk_isa.specs.Coded.{Callee, callee_of, callees_below, code_value, function_of, routine_of, start_of, step_limit, with_callee}
 use Rattle.sk_isa_laws.specs.Laws.{FunctionsHaveValues, IsReady, RunEnds}
-use Rattle.sk_isa.specs.Soundness.{IsSound, IsSoundCode, SuitParams}
+use Rattle.sk_isa.specs.SoundObjects.{HasSoundFunctions}
+use Rattle.sk_isa.specs.Soundness.{IsSoundCode, SuitParams}
 use Rattle.sk_isa_laws.specs.Steps.{AreSoundCallees, IsSoundCallee}
 use Rattle.sk_isa_laws.proofs.Runs.{run_ends}
 
@@ -150,10 +151,10 @@ function_of-code object function code arguments turns is =
       | None ↦ Ok (pos 0, turns)
     ]) is
 
-enough_signatures : (object : Object) → IsSound object → length object.functions ≤ length object.signatures
+enough_signatures : (object : Object) → HasSoundFunctions object → length object.functions ≤ length object.signatures
 enough_signatures object sound = let h : length object.signatures ≡ suc (length object.functions) = sound.signatures in omega arith
 
-pub are_ready : (object : Object) → IsSound object → (function : ℕ) (own : Signature) (code : Code) (arguments : List Argument)
+pub are_ready : (object : Object) → HasSoundFunctions object → (function : ℕ) (own : Signature) (code : Code) (arguments : List Argument)
     → slice_get object.signatures function ≡ Some own → slice_get object.functions function ≡ Some code → SuitParams own.params arguments
     → IsReady object.signatures function own code (callees_below object.signatures object.functions function) arguments
 are_ready object sound function own code arguments is_own is_code suits = record {
@@ -166,7 +167,7 @@ are_ready object sound function own code arguments is_own is_code suits = record
     upto : function < length object.functions → function ≤ length object.functions
     upto h = omega arith
 
-pub functions_have_values : (object : Object) → IsSound object → FunctionsHaveValues object
+pub functions_have_values : (object : Object) → HasSoundFunctions object → FunctionsHaveValues object
 functions_have_values object sound = record {
   count = callees-length object.signatures object.functions (enough_signatures object sound);
   each = callees_at object.signatures object.functions (enough_signatures object sound);

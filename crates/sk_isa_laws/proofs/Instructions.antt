@@ -18,8 +18,9 @@ use Rattle.sk_tree.specs.declared.tree.Un.TheVariants as prefix
 use Rattle.sk_isa.specs.declared.code.Instr.{Instr}
 use Rattle.sk_isa.specs.declared.code.Instr.TheVariants.{Push, Pop, Load, Store, Field, Item, Region, Neg, Inv, Not, Wrap, Binary, Jump, Zero, Turn, Call, Ret}
 use Rattle.sk_isa.specs.declared.object.Signature.{Signature}
-use Rattle.sk_isa.specs.Coded.{Callee, Ends, Goes, Point, Routine, Stuck, giving, going, next_of, returning, stored, turning, with_many, with_one}
-use Rattle.sk_isa.specs.Kernels.{AreOfTypes}
+use Rattle.sk_isa.specs.Coded.{Callee, Point, Routine, next_of, turning, by_trap}
+use Rattle.sk_isa.specs.Configurations.{Ends, Goes, Stuck, giving, going, returning, stored, with_many, with_one}
+use Rattle.sk_kernel.specs.Kernels.{AreOfTypes}
 use Rattle.sk_isa.specs.Soundness.{IsOfType, Named, SuitsParam, has_field, is_number, item_type, leads_to, left_by, left_by_call, left_by_ret, left_if, left_with, number_type, of_many, of_one, region_type, scalar_in, serve_for, serves}
 use Rattle.sk_isa_laws.specs.Steps.{IsSoundCallee, TakesTurns}
 use Rattle.sk_isa_laws.proofs.Steps.{IsLeftBy, IsLeftNext, Standing, found_so, giving_so, going_so, item_so, left_if_so, left_with_so, of_many_so, of_one_so, of_two_so, pushed, region_so, returning_so, scalar_so, slot_type}
@@ -105,14 +106,14 @@ module _ (named : Named) (routine : Routine) (point : Point) (standing : Standin
   item_there : (slot places : ℕ) → Follows (Item slot places)
   item_there slot places e = of_many_so (IsLeftNext named.own left point) places types point.stack
       (λ given rest. left_with (item_type named slot places) rest)
-      (λ place rest. elim (slice_get routine.arguments slot) [ Some argument ↦ giving point rest (element_at argument place) | None ↦ Stuck ]) left typed e
+      (λ place rest. elim (slice_get routine.arguments slot) [ Some argument ↦ giving by_trap point rest (element_at argument place) | None ↦ Stuck ]) left typed e
       (λ given rest place others fit h is. item_at rest place others h (left_with_so (item_type named slot places) rest left is))
     where
       item_at : (rest : List Ty) (place others : List ℤ) → AreOfTypes rest others → ((ty : Ty) × (item_type named slot places ≡ Some ty) × (ty ∷ rest ≡ left))
-          → IsLeftNext named.own left point (elim (slice_get routine.arguments slot) [ Some argument ↦ giving point others (element_at argument place) | None ↦ Stuck ])
+          → IsLeftNext named.own left point (elim (slice_get routine.arguments slot) [ Some argument ↦ giving by_trap point others (element_at argument place) | None ↦ Stuck ])
       item_at rest place others h (ty, item, is) =
           let kind : (dimension : ℕ) × (slice_get named.own.params slot ≡ Some (Proxy dimension ty)) = item_so (slice_get named.own.params slot) places ty item in
-          found_so (IsLeftNext named.own left point) (SuitsParam (Proxy kind.0 ty)) (slice_get routine.arguments slot) (λ argument. giving point others (element_at argument place))
+          found_so (IsLeftNext named.own left point) (SuitsParam (Proxy kind.0 ty)) (slice_get routine.arguments slot) (λ argument. giving by_trap point others (element_at argument place))
           (suited_at named.own.params routine.arguments slot (Proxy kind.0 ty) standing.arguments kind.1)
           (λ argument suits. giving_so named.own ty rest left point others (element_at argument place) standing.slots h
           (item-of_type kind.0 ty argument place suits) is)
@@ -120,14 +121,14 @@ module _ (named : Named) (routine : Routine) (point : Point) (standing : Standin
   region_there : (slot places : ℕ) → Follows (Region slot places)
   region_there slot places e = of_many_so (IsLeftNext named.own left point) places types point.stack
       (λ given rest. left_with (region_type named slot places) rest)
-      (λ place rest. elim (slice_get routine.arguments slot) [ Some argument ↦ giving point rest (element_at argument place) | None ↦ Stuck ]) left typed e
+      (λ place rest. elim (slice_get routine.arguments slot) [ Some argument ↦ giving by_trap point rest (element_at argument place) | None ↦ Stuck ]) left typed e
       (λ given rest place others fit h is. region_at rest place others h (left_with_so (region_type named slot places) rest left is))
     where
       region_at : (rest : List Ty) (place others : List ℤ) → AreOfTypes rest others → ((ty : Ty) × (region_type named slot places ≡ Some ty) × (ty ∷ rest ≡ left))
-          → IsLeftNext named.own left point (elim (slice_get routine.arguments slot) [ Some argument ↦ giving point others (element_at argument place) | None ↦ Stuck ])
+          → IsLeftNext named.own left point (elim (slice_get routine.arguments slot) [ Some argument ↦ giving by_trap point others (element_at argument place) | None ↦ Stuck ])
       region_at rest place others h (ty, item, is) =
           let kind : (dimension : ℕ) × (slice_get named.own.params slot ≡ Some (RegionKind dimension ty)) = region_so (slice_get named.own.params slot) places ty item in
-          found_so (IsLeftNext named.own left point) (SuitsParam (RegionKind kind.0 ty)) (slice_get routine.arguments slot) (λ argument. giving point others (element_at argument place))
+          found_so (IsLeftNext named.own left point) (SuitsParam (RegionKind kind.0 ty)) (slice_get routine.arguments slot) (λ argument. giving by_trap point others (element_at argument place))
           (suited_at named.own.params routine.arguments slot (RegionKind kind.0 ty) standing.arguments kind.1)
           (λ argument suits. giving_so named.own ty rest left point others (element_at argument place) standing.slots h
           (region-of_type kind.0 ty argument place suits) is)
@@ -160,7 +161,7 @@ module _ (named : Named) (routine : Routine) (point : Point) (standing : Standin
   binary_so : (op : Op) (ty : Ty) → Follows (Binary op ty)
   binary_so op ty e = of_two_so (IsLeftNext named.own left point) types point.stack
       (λ one other rest. left_if (serves one ty && (is_shift op || serves other ty)) (result_type op ty ty ∷ rest))
-      (λ a b rest. giving point rest (op_of op ty a b)) left typed e
+      (λ a b rest. giving by_trap point rest (op_of op ty a b)) left typed e
       (λ one other rest a b others fits fit h is.
       both one other rest a b others fits h (left_if_so (serves one ty && (is_shift op || serves other ty)) (result_type op ty ty ∷ rest) left is))
     where
@@ -170,7 +171,7 @@ module _ (named : Named) (routine : Routine) (point : Point) (standing : Standin
 
       both : (one other : Ty) (rest : List Ty) (a b : ℤ) (others : List ℤ) → InRange one a → AreOfTypes rest others
           → ((serves one ty && (is_shift op || serves other ty)) ≡ true) × (result_type op ty ty ∷ rest ≡ left)
-          → IsLeftNext named.own left point (giving point others (op_of op ty a b))
+          → IsLeftNext named.own left point (giving by_trap point others (op_of op ty a b))
       both one other rest a b others fits h (so, is) = giving_so named.own (result_type op ty ty) rest left point others (op_of op ty a b) standing.slots h
           (of_type (op_of op ty a b) (result_type op ty ty)
           (operator-in_range op ty a b (served one ty a (first_so (serves one ty) (is_shift op || serves other ty) so) fits))) is
@@ -180,29 +181,29 @@ module _ (named : Named) (routine : Routine) (point : Point) (standing : Standin
     where
       gives : (signature : Signature) (callee : Callee) → IsSoundCallee signature callee
           → of_many (length signature.params) types (λ given rest. left_if (serve_for given signature.params) (signature.ret ∷ rest)) ≡ Some left
-          → IsLeftNext named.own left point (with_many callee.takes point.stack (λ values rest. returning point rest (callee.call values point.turns)))
+          → IsLeftNext named.own left point (with_many callee.takes point.stack (λ values rest. returning point rest (callee.call values point.kept)))
       gives signature callee sound e =
-          subst (λ (count : ℕ). IsLeftNext named.own left point (with_many count point.stack (λ values rest. returning point rest (callee.call values point.turns))))
+          subst (λ (count : ℕ). IsLeftNext named.own left point (with_many count point.stack (λ values rest. returning point rest (callee.call values point.kept))))
           (sym sound.takes)
           (of_many_so (IsLeftNext named.own left point) (length signature.params) types point.stack
           (λ given rest. left_if (serve_for given signature.params) (signature.ret ∷ rest))
-          (λ values rest. returning point rest (callee.call values point.turns)) left typed e
+          (λ values rest. returning point rest (callee.call values point.kept)) left typed e
           (λ given rest values others fit h is. given_back given rest values others fit h
           (left_if_so (serve_for given signature.params) (signature.ret ∷ rest) left is)))
         where
           given_back : (given rest : List Ty) (values others : List ℤ) → AreOfTypes given values → AreOfTypes rest others
               → ((serve_for given signature.params ≡ true) × (signature.ret ∷ rest ≡ left))
-              → IsLeftNext named.own left point (returning point others (callee.call values point.turns))
+              → IsLeftNext named.own left point (returning point others (callee.call values point.kept))
           given_back given rest values others fit h (serve, is) =
-              returning_so named.own signature.ret rest left point others (callee.call values point.turns) standing.slots h
-              (sound.gives values point.turns (typed_arguments given signature.params values serve fit)) is
+              returning_so named.own signature.ret rest left point others (callee.call values point.kept) standing.slots h
+              (sound.gives values point.kept (typed_arguments given signature.params values serve fit)) is
 
       there : nat_lt function named.function ≡ true → (found : Option Signature) → slice_get named.signatures function ≡ found
           → left_by_call found types ≡ Some left → IsLeftNext named.own left point (next_of routine (Call function) point)
       there less None is e = cc
       there less (Some signature) is e =
           found_so (IsLeftNext named.own left point) (IsSoundCallee signature) (slice_get routine.callees function)
-          (λ callee. with_many callee.takes point.stack (λ values rest. returning point rest (callee.call values point.turns)))
+          (λ callee. with_many callee.takes point.stack (λ values rest. returning point rest (callee.call values point.kept)))
           (standing.callees.each function signature (earlier function named.function less) is)
           (λ callee sound. gives signature callee sound e)
         where
@@ -241,15 +242,15 @@ module _ (named : Named) (routine : Routine) (point : Point) (standing : Standin
       either false = (1, omega arith, refl)
 
   turn_so : Leaves Turn
-  turn_so e = turned point.turns refl
+  turn_so e = turned point.kept refl
     where
-      turned : (turns : ℕ) → point.turns ≡ turns
+      turned : (turns : ℕ) → point.kept ≡ turns
           → IsLeftBy named.own left (suc point.at ∷ []) (λ before behind. before ≡ suc behind) point (turning point turns)
       turned zero is = tt
       turned (suc fewer) is = record { stack = kept e; slots = standing.slots; led = (0, omega arith, refl); turns = is }
 
 ret_of : (ret : Ty) (types : List Ty) (stack : List ℤ) (left : List Ty) (turns : ℕ) → AreOfTypes types stack → left_by_ret ret types ≡ Some left
-    → (own : Signature) (before : Point) → own.ret ≡ ret → before.turns ≡ turns
+    → (own : Signature) (before : Point) → own.ret ≡ ret → before.kept ≡ turns
     → IsLeftBy own left [] (λ turns fewer. fewer ≤ turns) before (with_one stack (λ a rest. Ends (Ok (a, turns))))
 ret_of ret [] stack left turns h e own before same is = cc
 ret_of ret (ty ∷ []) [] left turns h e own before same is = absurd h
@@ -278,5 +279,5 @@ instruction_so named routine point standing types left typed (Jump to) e = jump_
 instruction_so named routine point standing types left typed (Zero to) e = zero_so named routine point standing types left typed to e
 instruction_so named routine point standing types left typed Turn e = turn_so named routine point standing types left typed e
 instruction_so named routine point standing types left typed (Call function) e = call_so named routine point standing types left typed function e
-instruction_so named routine point standing types left typed Ret e = ret_of named.own.ret types point.stack left point.turns typed e named.own point refl refl
+instruction_so named routine point standing types left typed Ret e = ret_of named.own.ret types point.stack left point.kept typed e named.own point refl refl
 instruction_so named routine point standing types left typed instr e = cc

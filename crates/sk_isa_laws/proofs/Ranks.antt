@@ -3,8 +3,8 @@ use Rattle.std.proofs.Common.{◌≡◌, ℕ, zero, suc, ◌+◌, ◌^◌, ◌<�
 use Rattle.std.proofs.lemmas.Nat.{pow_pos}
 use Rattle.std.proofs.lemmas.Option.{slice_get_within}
 use Rattle.sk_isa.specs.declared.code.Instr.{Instr}
-use Rattle.sk_isa.specs.declared.code.Instr.TheVariants.{Jump, Zero, Turn, Ret}
-use Rattle.sk_isa.specs.Soundness.{leads_to, JumpsTo, PassesTurn, LoopsTakeTurns}
+use Rattle.sk_isa.specs.declared.code.Instr.TheVariants.{Jump, Zero, Turn, Ret, Halt}
+use Rattle.sk_isa.specs.Soundness.{leads_to, JumpsTo, PassesMark, IsTurn, LoopsTakeTurns}
 use Rattle.sk_isa_laws.specs.Ranks.{without_turn, above, most_steps, rank}
 
 -- an address is one of a list
@@ -35,6 +35,7 @@ step_of (Zero target) at to (inr (inl e)) = inr (inr (ap Zero (sym e)))
 step_of (Zero target) at to (inr (inr h)) = absurd h
 step_of Turn at to h = absurd h
 step_of Ret at to h = absurd h
+step_of Halt at to h = absurd h
 step_of instr at to (inl e) = inl e
 step_of instr at to (inr h) = absurd h
 
@@ -104,10 +105,10 @@ no_return instrs loops end to steps step way = elim (step_cases instrs end to st
     beyond : to ≤ end → to ≡ suc end → ⊥
     beyond upto next = omega arith
 
-    round : JumpsTo instrs end to → PassesTurn instrs end to → ⊥
-    round jump passes = elim (at_or_below passes.turn end passes.upto) [
-      | inl same ↦ no_jump instrs end to (subst (λ (t : ℕ). slice_get instrs t ≡ Some Turn) same passes.is_turn) jump
-      | inr low ↦ stops_at_turn instrs passes.turn end passes.is_turn low passes.none_over to steps passes.from way
+    round : JumpsTo instrs end to → PassesMark IsTurn instrs end to → ⊥
+    round jump passes = elim (at_or_below passes.mark end passes.upto) [
+      | inl same ↦ no_jump instrs end to (subst (λ (t : ℕ). slice_get instrs t ≡ Some Turn) same passes.is_mark) jump
+      | inr low ↦ stops_at_turn instrs passes.mark end passes.is_mark low passes.none_over to steps passes.from way
     ]
 
 -- A way below the next bound stays below the bound, or it comes to the bound once and goes on from there.

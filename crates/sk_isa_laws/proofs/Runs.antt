@@ -9,8 +9,9 @@ use Rattle.sk_isa.specs.declared.code.Code.{Code}
 use Rattle.sk_isa.specs.declared.code.Instr.{Instr}
 use Rattle.sk_isa.specs.declared.code.Instr.TheVariants.{Turn}
 use Rattle.sk_isa.specs.declared.object.Signature.{Signature}
-use Rattle.sk_isa.specs.Coded.{Callee, Ended, Ends, Goes, Lost, Next, Outcome, Point, Routine, Stuck, code_value, followed, next_of, outcome_of, result_of, routine_of, start_of, step_limit}
-use Rattle.sk_isa.specs.Kernels.{AreOfTypes}
+use Rattle.sk_isa.specs.Coded.{Callee, Next, Point, Routine, code_value, next_of, outcome_of, result_of, routine_of, start_of, step_limit}
+use Rattle.sk_isa.specs.Configurations.{Ended, Ends, Goes, Lost, Outcome, Stuck, followed, run_of}
+use Rattle.sk_kernel.specs.Kernels.{AreOfTypes}
 use Rattle.sk_isa_laws.specs.Laws.{IsReady, RunEnds, StepsAreFine}
 use Rattle.sk_isa_laws.specs.Ranks.{rank}
 use Rattle.sk_isa.specs.Soundness.{IsSoundCode, LoopsTakeTurns, SuitParams, Types, leads_to, serves}
@@ -91,7 +92,7 @@ given_less own turns fewer (Err trap) less h = tt
 -- one step of a run
 pub outcome-next : (routine : Routine) (steps : ℕ) (point : Point) (instr : Instr) → slice_get routine.instrs point.at ≡ Some instr
     → outcome_of routine (suc steps) point ≡ followed (next_of routine instr point) (outcome_of routine steps)
-unfolding outcome_of
+unfolding run_of
 outcome-next routine steps point instr found =
     ap (λ (f : Option Instr). elim f [ Some instr ↦ followed (next_of routine instr point) (outcome_of routine steps) | None ↦ Lost ]) found
 
@@ -99,7 +100,7 @@ outcome-next routine steps point instr found =
 pub record EndsFrom (own : Signature) (routine : Routine) (steps : ℕ) (point : Point) : Type 0 where
   pub result : Result (ℤ × ℕ) Trap
   pub outcome : outcome_of routine steps point ≡ Ended result
-  pub given : IsGiven own.ret point.turns result
+  pub given : IsGiven own.ret point.kept result
 
 ends_with : (own : Signature) (routine : Routine) (steps : ℕ) (before : Point) (instr : Instr) (chosen : Types)
     → slice_get routine.instrs before.at ≡ Some instr
@@ -110,7 +111,7 @@ ends_with own routine steps before instr chosen found onward (Goes behind) is fi
     record {
       result = rest.result;
       outcome = outcome-next routine steps before instr found ∙ ap (λ next. followed next (outcome_of routine steps)) is ∙ rest.outcome;
-      given = given_less own.ret before.turns behind.turns rest.result (no_more instr before.turns behind.turns fine.turns) rest.given;
+      given = given_less own.ret before.kept behind.kept rest.result (no_more instr before.kept behind.kept fine.turns) rest.given;
     }
 ends_with own routine steps before instr chosen found onward (Ends result) is fine = record {
   result = result;
@@ -122,27 +123,27 @@ ends_with own routine steps before instr chosen found onward Stuck is fine = abs
 -- code that keeps to fine points, and whose loops take turns, ends within its measure
 ends_from : (own : Signature) (code : Code) (callees : List Callee) (arguments : List Argument) (chosen : Types)
     → StepsAreFine own code callees arguments chosen → LoopsTakeTurns code.instrs → (steps : ℕ) (point : Point) → IsFinePoint own chosen point
-    → point.turns * 2 ^ length code.instrs + rank code.instrs point.at < steps → EndsFrom own (routine_of callees code arguments) steps point
+    → point.kept * 2 ^ length code.instrs + rank code.instrs point.at < steps → EndsFrom own (routine_of callees code arguments) steps point
 ends_from own code callees arguments chosen are_fine loops zero point fine less = absurd (omega arith)
 ends_from own code callees arguments chosen are_fine loops (suc steps) point fine less =
     at_instr (slice_get code.instrs point.at) refl (are_fine point fine) (λ behind fine less. ends_from own code callees arguments chosen are_fine loops steps behind fine less)
   where
     at_instr : (found : Option Instr) → slice_get code.instrs point.at ≡ found
         → IsSomeAnd found (λ instr. IsFineNext own chosen instr point (next_of (routine_of callees code arguments) instr point))
-        → ((behind : Point) → IsFinePoint own chosen behind → behind.turns * 2 ^ length code.instrs + rank code.instrs behind.at < steps
+        → ((behind : Point) → IsFinePoint own chosen behind → behind.kept * 2 ^ length code.instrs + rank code.instrs behind.at < steps
         → EndsFrom own (routine_of callees code arguments) steps behind)
         → EndsFrom own (routine_of callees code arguments) (suc steps) point
     at_instr None found h again = absurd h
     at_instr (Some instr) found h again =
         ends_with own (routine_of callees code arguments) steps point instr chosen found
-        (λ behind step. again behind step.point (lower (measure_falls code.instrs loops instr point.at behind.at point.turns behind.turns found step.led step.turns)))
+        (λ behind step. again behind step.point (lower (measure_falls code.instrs loops instr point.at behind.at point.kept behind.kept found step.led step.turns)))
         (next_of (routine_of callees code arguments) instr point) refl h
       where
-        lower : {a : ℕ} → a < point.turns * 2 ^ length code.instrs + rank code.instrs point.at → a < steps
+        lower : {a : ℕ} → a < point.kept * 2 ^ length code.instrs + rank code.instrs point.at → a < steps
         lower h = omega arith
 
 -- a run that has ended has the same end after more steps
-followed_more : (next : Next) (few many : Point → Outcome) (result : Result (ℤ × ℕ) Trap)
+followed_more : (next : Next) (few many : Point → Outcome ℕ Trap) (result : Result (ℤ × ℕ) Trap)
     → ((point : Point) → few point ≡ Ended result → many point ≡ Ended result) → followed next few ≡ Ended result → followed next many ≡ Ended result
 followed_more (Goes point) few many result more h = more point h
 followed_more (Ends given) few many result more h = h
@@ -150,7 +151,7 @@ followed_more Stuck few many result more h = h
 
 pub outcome_more : (routine : Routine) (few many : ℕ) (point : Point) (result : Result (ℤ × ℕ) Trap) → few ≤ many
     → outcome_of routine few point ≡ Ended result → outcome_of routine many point ≡ Ended result
-unfolding outcome_of
+unfolding run_of
 outcome_more routine zero many point result upto h = cc
 outcome_more routine (suc few) zero point result upto h = absurd (omega arith)
 outcome_more routine (suc few) (suc many) point result upto h =

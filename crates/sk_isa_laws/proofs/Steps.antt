@@ -8,8 +8,9 @@ use Rattle.sk_meaning.specs.Evaluation.{kind_type}
 use Rattle.sk_tree.specs.declared.tree.ParamKind.{ParamKind}
 use Rattle.sk_tree.specs.declared.tree.ParamKind.TheVariants.{Scalar, Index, Proxy, Region as RegionKind}
 use Rattle.sk_isa.specs.declared.object.Signature.{Signature}
-use Rattle.sk_isa.specs.Coded.{Ends, Goes, Next, Point, Routine, Stuck, giving, going, returning, with_many, with_one, with_two}
-use Rattle.sk_isa.specs.Kernels.{AreOfTypes}
+use Rattle.sk_isa.specs.Configurations.{Ends, Goes, Stuck, giving, going, returning, with_many, with_one, with_two}
+use Rattle.sk_isa.specs.Coded.{Next, Point, Routine, by_trap}
+use Rattle.sk_kernel.specs.Kernels.{AreOfTypes}
 use Rattle.sk_isa.specs.Soundness.{IsOfType, Left, Named, SuitParams, left_if, left_with, of_many, of_one, of_two}
 use Rattle.sk_isa_laws.specs.Steps.{AreSoundCallees, IsGiven}
 use Rattle.sk_isa_laws.proofs.TypedLists.{typed-drop, typed-length, typed-reverse, typed-take}
@@ -19,11 +20,11 @@ pub record IsLeft (own : Signature) (left : List Ty) (targets : List ℕ) (takes
   pub stack : AreOfTypes left behind.stack
   pub slots : AreOfTypes (map kind_type own.slots) behind.slots
   pub led : Contains targets behind.at
-  pub turns : takes before.turns behind.turns
+  pub turns : takes before.kept behind.kept
 
 abbrev pub IsLeftBy : Signature → List Ty → (targets : List ℕ) → (takes : ℕ → ℕ → Type 0) → Point → Next → Type 0
 IsLeftBy own left targets takes before (Goes behind) = IsLeft own left targets takes before behind
-IsLeftBy own left targets takes before (Ends result) = IsGiven own.ret before.turns result
+IsLeftBy own left targets takes before (Ends result) = IsGiven own.ret before.kept result
 IsLeftBy own left targets takes before Stuck = ⊥
 
 -- what an instruction leaves that leads to the next address alone
@@ -128,12 +129,12 @@ going_so own left before stack slots h = record { stack = h; slots = slots; led 
 
 pub giving_so : (own : Signature) (ty : Ty) (rest left : List Ty) (before : Point) (others : List ℤ) (result : Result ℤ Trap)
     → AreOfTypes (map kind_type own.slots) before.slots → AreOfTypes rest others → IsOfType ty result → ty ∷ rest ≡ left
-    → IsLeftNext own left before (giving before others result)
+    → IsLeftNext own left before (giving by_trap before others result)
 giving_so own ty rest left before others (Ok value) slots h fits e = going_so own left before (value ∷ others) slots (pushed ty rest left value others fits h e)
 giving_so own ty rest left before others (Err trap) slots h fits e = tt
 
 pub returning_so : (own : Signature) (ty : Ty) (rest left : List Ty) (before : Point) (others : List ℤ) (result : Result (ℤ × ℕ) Trap)
-    → AreOfTypes (map kind_type own.slots) before.slots → AreOfTypes rest others → IsGiven ty before.turns result → ty ∷ rest ≡ left
+    → AreOfTypes (map kind_type own.slots) before.slots → AreOfTypes rest others → IsGiven ty before.kept result → ty ∷ rest ≡ left
     → IsLeftNext own left before (returning before others result)
 returning_so own ty rest left before others (Ok done) slots h given e =
     record { stack = pushed ty rest left done.0 others given.0 h e; slots = slots; led = (0, omega arith, refl); turns = given.1 }

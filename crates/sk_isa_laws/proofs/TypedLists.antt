@@ -8,7 +8,7 @@ use Rattle.sk_base.specs.Arithmetic.{InRange}
 use Rattle.sk_meaning.specs.Evaluation.{Argument, Value, Place, Whole, Neighbours, number_in, kind_type}
 use Rattle.sk_tree.specs.declared.tree.ParamKind.{ParamKind}
 use Rattle.sk_tree.specs.declared.tree.ParamKind.TheVariants.{Scalar, Index, Proxy, Region}
-use Rattle.sk_isa.specs.Kernels.{AreOfTypes}
+use Rattle.sk_kernel.specs.Kernels.{AreOfTypes}
 use Rattle.sk_isa.specs.Soundness.{serves, serve_for, AreSlots, SuitsParam, SuitParams}
 use Rattle.sk_isa_laws.proofs.Values.{served, zero-in_range}
 

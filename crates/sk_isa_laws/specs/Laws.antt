@@ -7,7 +7,8 @@ use Rattle.sk_isa.specs.declared.code.Instr.{Instr}
 use Rattle.sk_isa.specs.declared.code.Instr.TheVariants.{Turn}
 use Rattle.sk_isa.specs.declared.object.Object.{Object}
 use Rattle.sk_isa.specs.declared.object.Signature.{Signature}
-use Rattle.sk_isa.specs.Coded.{Callee, Ended, Point, Routine, callee_of, callees_below, code_value, function_of, next_of, outcome_of, routine_of, start_of, step_limit}
+use Rattle.sk_isa.specs.Coded.{Callee, Point, Routine, callee_of, callees_below, code_value, function_of, next_of, outcome_of, routine_of, start_of, step_limit}
+use Rattle.sk_isa.specs.Configurations.{Ended}
 use Rattle.sk_isa_laws.specs.Ranks.{rank}
 use Rattle.sk_isa.specs.Soundness.{IsSoundCode, SuitParams, Types, leads_to}
 use Rattle.sk_isa_laws.specs.Steps.{AreSoundCallees, IsFineNext, IsFinePoint, IsGiven}

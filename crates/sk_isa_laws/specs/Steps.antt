@@ -4,8 +4,9 @@ use Rattle.sk_base.specs.declared.number.Ty.{Ty}
 use Rattle.sk_base.specs.declared.number.Trap.{Trap}
 use Rattle.sk_base.specs.Arithmetic.{InRange}
 use Rattle.sk_meaning.specs.Evaluation.{Value, kind_type}
-use Rattle.sk_isa.specs.Coded.{Callee, Goes, Ends, Next, Point, Stuck}
-use Rattle.sk_isa.specs.Kernels.{AreOfTypes}
+use Rattle.sk_isa.specs.Coded.{Callee, Next, Point}
+use Rattle.sk_isa.specs.Configurations.{Goes, Ends, Stuck}
+use Rattle.sk_kernel.specs.Kernels.{AreOfTypes}
 use Rattle.sk_isa.specs.Soundness.{SuitParams, Types, leads_to}
 use Rattle.sk_isa.specs.declared.code.Instr.{Instr}
 use Rattle.sk_isa.specs.declared.code.Instr.TheVariants.{Turn}
@@ -44,10 +45,10 @@ TakesTurns instr before behind = behind ≤ before
 pub record IsFineStep (own : Signature) (chosen : Types) (instr : Instr) (before behind : Point) : Type 0 where
   pub point : IsFinePoint own chosen behind
   pub led : Contains (leads_to instr before.at) behind.at
-  pub turns : TakesTurns instr before.turns behind.turns
+  pub turns : TakesTurns instr before.kept behind.kept
 
 -- an instruction is never stuck, and what it leads to is fine
 abbrev pub IsFineNext : Signature → Types → Instr → (before : Point) → Next → Type 0
 IsFineNext own chosen instr before (Goes behind) = IsFineStep own chosen instr before behind
-IsFineNext own chosen instr before (Ends result) = IsGiven own.ret before.turns result
+IsFineNext own chosen instr before (Ends result) = IsGiven own.ret before.kept result
 IsFineNext own chosen instr before Stuck = ⊥

@@ -2,7 +2,8 @@ ghost use Rattle.std.specs.Prelude.{List};
 ghost use Rattle.sk_isa.specs.declared.code.Instr.{Instr};
 ghost use Rattle.sk_isa.specs.declared.object.Object.{Object};
 ghost use Rattle.sk_isa_laws.specs.Laws.{FunctionsHaveValues, RanksFall, SoundCodeEnds, SoundCodeIsNeverStuck};
-ghost use Rattle.sk_isa.specs.Soundness.{IsSound, LoopsTakeTurns};
+ghost use Rattle.sk_isa.specs.SoundObjects.{HasSoundFunctions};
+ghost use Rattle.sk_isa.specs.Soundness.{LoopsTakeTurns};
 
 /// A law: where all loops take turns, steps without a turn come to an end.
 pub fn ranks_fall()
@@ -21,5 +22,5 @@ pub fn sound_code_ends()
 
 /// A law: the functions of a sound object have the values with which the runs of their codes end.
 pub fn functions_have_values()
-    ensures { (object : Object) → IsSound object → FunctionsHaveValues object }
+    ensures { (object : Object) → HasSoundFunctions object → FunctionsHaveValues object }
 {}

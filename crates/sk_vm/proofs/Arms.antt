@@ -4,9 +4,11 @@ use Rattle.std.specs.Prelude.{Option, Some, None, if◌then◌else◌}
 use Rattle.std.proofs.lemmas.Option.{slice_get-get_or}
 use Rattle.std.proofs.lemmas.Bool.{cond-true, lt-ltb}
 use Rattle.sk_base.specs.declared.number.Op.{Op}
+use Rattle.sk_base.specs.declared.number.Trap.{Trap}
 use Rattle.sk_base.specs.declared.number.Ty.{Ty}
 use Rattle.sk_meaning.specs.Expressions.{holds}
-use Rattle.sk_isa.specs.Coded.{Point, Routine, Next, Goes, Stuck, next_of, going, with_one, stored}
+use Rattle.sk_isa.specs.Coded.{Point, Routine, Next, next_of}
+use Rattle.sk_isa.specs.Configurations.{Goes, Stuck, going, with_one, stored}
 use Rattle.sk_isa.specs.declared.code.Instr.{Instr}
 use Rattle.sk_isa.specs.declared.code.Instr.TheVariants.{Pop, Load, Store, Zero, Binary, Call}
 use Rattle.sk_vm.specs.declared.stack.Stand.{Stand}
@@ -58,7 +60,7 @@ store-leads slot instr stand stack slots slots_after result is there some to set
 -- an instruction that puts a function of the topmost value in its place
 pub replaces : (f : ℤ → ℤ) (stand : Stand) (stack after slots : List ℤ) (value : ℤ) → 0 < stand.top
     → values_in stack stand.top ≡ value ∷ values_in stack (stand.top - 1) → values_in after stand.top ≡ f value ∷ values_in stack (stand.top - 1)
-    → with_one (values_in stack stand.top) (λ a rest. going (point_at stand stack slots) (f a ∷ rest)) ≡ Goes (point_at (past stand stand.top) after slots)
+    → with_one {F = Trap} (values_in stack stand.top) (λ a rest. going (point_at stand stack slots) (f a ∷ rest)) ≡ Goes (point_at (past stand stand.top) after slots)
 replaces f stand stack after slots value some before values =
     ap (λ (xs : List ℤ). with_one xs (λ a rest. going (point_at stand stack slots) (f a ∷ rest))) before
     ∙ going-in stand (past stand stand.top) stack after slots slots _ refl refl refl values

@@ -12,10 +12,12 @@ use Rattle.sk_isa.specs.declared.code.Code.{Code}
 use Rattle.sk_isa.specs.declared.code.Instr.TheVariants.{Call}
 use Rattle.sk_isa.specs.declared.object.Object.{Object}
 use Rattle.sk_isa.specs.declared.object.Signature.{Signature}
-use Rattle.sk_isa.specs.Coded.{Callee, Point, Routine, Goes, Stuck, next_of, returning, with_many, callee_of, callees_below, function_of}
-use Rattle.sk_isa.specs.Instances.{signature_at}
-use Rattle.sk_isa.specs.Kernels.{AreOfTypes}
-use Rattle.sk_isa.specs.Soundness.{AreSlots, IsSound, Named, SuitParams, left_by, left_by_call, left_if, serve_for}
+use Rattle.sk_isa.specs.Coded.{Callee, Point, Routine, next_of, callee_of, callees_below, function_of}
+use Rattle.sk_isa.specs.Configurations.{Goes, Stuck, returning, with_many}
+use Rattle.sk_isa.specs.Objects.{signature_at}
+use Rattle.sk_kernel.specs.Kernels.{AreOfTypes}
+use Rattle.sk_isa.specs.Soundness.{AreSlots, Named, SuitParams, left_by, left_by_call, left_if, serve_for}
+use Rattle.sk_isa.specs.SoundObjects.{HasSoundFunctions}
 use Rattle.sk_isa_laws.proofs.Callees.{functions_have_values, function_of-code, there}
 use Rattle.sk_isa_laws.proofs.TypedLists.{typed-length, typed-reverse, typed-take, typed_arguments}
 use Rattle.sk_vm.specs.declared.stack.Stand.{Stand}
@@ -72,12 +74,12 @@ call_found named callee types left values e typed = by_number (nat_lt callee nam
     by_number false before e = cc
 
 -- what a call leads to is its function's value
-pub calls-next : (object : Object) → IsSound object → (function callee : ℕ) → function ≤ length object.functions → callee < function
+pub calls-next : (object : Object) → HasSoundFunctions object → (function callee : ℕ) → function ≤ length object.functions → callee < function
     → (routine : Routine) → routine.callees ≡ callees_below object.signatures object.functions function → (point : Point)
     → length (signature_at object callee).params ≤ length point.stack
     → next_of routine (Call callee) point
     ≡ returning point (drop (length (signature_at object callee).params) point.stack)
-    (function_of object callee (map Value (reverse (take (length (signature_at object callee).params) point.stack))) point.turns)
+    (function_of object callee (map Value (reverse (take (length (signature_at object callee).params) point.stack))) point.kept)
 calls-next object sound function callee upto before routine callees point enough =
     let count : length object.signatures ≡ suc (length object.functions) = sound.signatures in
     let code = there object.functions callee (omega arith) in
@@ -88,14 +90,14 @@ calls-next object sound function callee upto before routine callees point enough
     ∙ (functions_have_values object sound).each function callee own.0 code.0 before upto own.1 code.1 in
     let many : length own.0.params ≤ length point.stack = subst (λ (s : Signature). length s.params ≤ length point.stack) is enough in
     ap (λ (o : Option Callee). elim o [
-      | Some callee ↦ with_many callee.takes point.stack (λ values rest. returning point rest (callee.call values point.turns))
+      | Some callee ↦ with_many callee.takes point.stack (λ values rest. returning point rest (callee.call values point.kept))
       | None ↦ Stuck
     ]) found
     ∙ cond-true (nat_le (length own.0.params) (length point.stack)) _ Stuck (le-leb (length own.0.params) (length point.stack) many)
     ∙ ap (returning point (drop (length own.0.params) point.stack))
-    (sym (function_of-code object callee code.0 (map Value (reverse (take (length own.0.params) point.stack))) point.turns code.1))
+    (sym (function_of-code object callee code.0 (map Value (reverse (take (length own.0.params) point.stack))) point.kept code.1))
     ∙ ap (λ (s : Signature). returning point (drop (length s.params) point.stack)
-    (function_of object callee (map Value (reverse (take (length s.params) point.stack))) point.turns)) (sym is)
+    (function_of object callee (map Value (reverse (take (length s.params) point.stack))) point.kept)) (sym is)
 
 -- what does not fall from a number to the next does not fall from a number to a greater one
 rising : (f : ℕ → ℕ) → ((n : ℕ) → f n ≤ f (suc n)) → (few many : ℕ) → few ≤ many → f few ≤ f many
@@ -183,8 +185,8 @@ pub call_returns : (object : Object) (callee : ℕ) (stand : Stand) (stack front
 call_returns object callee stand stack front old back slots takes value turns takes_is enough is size some gives =
     let at : stand.at + 1 ≡ suc stand.at = omega arith in
     let values = value_in_place takes (stand.top - takes) stand.top stack front old back value is size (omega arith) some in
-    ap (λ (n : ℕ). Goes (record { at = n; stack = values_in (front ++ slice_set back 0 value) (stand.top - takes + 1); slots = slots; turns = turns })) at
-    ∙ ap (λ (xs : List ℤ). Goes (record { at = suc stand.at; stack = xs; slots = slots; turns = turns })) values
+    ap (λ (n : ℕ). Goes (record { at = n; stack = values_in (front ++ slice_set back 0 value) (stand.top - takes + 1); slots = slots; kept = turns })) at
+    ∙ ap (λ (xs : List ℤ). Goes (record { at = suc stand.at; stack = xs; slots = slots; kept = turns })) values
     ∙ ap (λ (n : ℕ). returning (point_at stand stack slots) (drop n (values_in stack stand.top)) (Ok (value, turns))) takes_is
     ∙ ap (returning (point_at stand stack slots) (drop (length (signature_at object callee).params) (values_in stack stand.top))) (sym gives)
 
@@ -194,7 +196,7 @@ slots_enough [] slots are = omega arith
 slots_enough (param ∷ params) [] are = absurd are
 slots_enough (param ∷ params) (slot ∷ slots) are = let h = slots_enough params slots are.1 in omega arith
 
-pub params_fit : (object : Object) → IsSound object → (function : ℕ) → function < length object.functions
+pub params_fit : (object : Object) → HasSoundFunctions object → (function : ℕ) → function < length object.functions
     → length (signature_at object function).params ≤ slots_at object.functions function
 params_fit object sound function within =
     let count : length object.signatures ≡ suc (length object.functions) = sound.signatures in
@@ -230,7 +232,7 @@ begins-entered object function given slots size is size_is count params suited =
     )
 
 -- slots into which the arguments of a call were put
-pub call_begins : (object : Object) → IsSound object → (callee : ℕ) → callee < length object.functions → (stack free slots : List ℤ) (top takes size : ℕ)
+pub call_begins : (object : Object) → HasSoundFunctions object → (callee : ℕ) → callee < length object.functions → (stack free slots : List ℤ) (top takes size : ℕ)
     → takes ≡ length (signature_at object callee).params → takes ≤ top → top ≤ length stack → free ≡ drop (top - takes) stack
     → size ≡ slots_at object.functions callee → length slots ≡ size
     → slots ≡ take takes free ++ replicate (size - length (take takes free)) (pos 0)

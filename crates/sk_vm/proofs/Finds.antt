@@ -13,7 +13,7 @@ use Rattle.sk_tree.specs.declared.tree.ParamKind.{ParamKind}
 use Rattle.sk_tree.specs.declared.tree.ParamKind.TheVariants.{Scalar, Index, Proxy, Region as RegionKind}
 use Rattle.sk_isa.specs.declared.code.Instr.{Instr}
 use Rattle.sk_isa.specs.declared.code.Instr.TheVariants.{Push, Pop, Load, Store, Field, Item, Region, Neg, Inv, Not, Wrap, Binary, Jump, Zero, Turn, Call, Ret}
-use Rattle.sk_isa.specs.Kernels.{AreOfTypes}
+use Rattle.sk_kernel.specs.Kernels.{AreOfTypes}
 use Rattle.sk_isa.specs.Soundness.{Left, Named, has_field, is_number, is_scalar, item_type, leads_to, left_by, left_if, left_with, number_type, of_many, of_one, of_two, region_type, scalar_in, serves, left_by_ret}
 use Rattle.sk_isa_laws.proofs.Steps.{left_if_so, left_with_so, scalar_so, item_so, region_so}
 use Rattle.sk_isa_laws.proofs.TypedLists.{typed-length}

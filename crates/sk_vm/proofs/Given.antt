@@ -8,9 +8,12 @@ use Rattle.sk_meaning.specs.Evaluation.{Argument, Value, turn_limit, value_only}
 use Rattle.sk_isa.specs.declared.object.Object.{Object}
 use Rattle.sk_isa.specs.declared.object.Signature.{Signature}
 use Rattle.sk_isa.specs.Coded.{function_of}
-use Rattle.sk_isa.specs.Instances.{Reading, function_meaning, invoked, signature_at}
-use Rattle.sk_isa.specs.Kernels.{Agree, Source, Suits, given_by}
-use Rattle.sk_isa.specs.Soundness.{IsSound, SuitParams, TakesScalars, is_scalar}
+use Rattle.sk_arguments.specs.Arguments.{Reading}
+use Rattle.sk_kernel.specs.Instances.{function_meaning}
+use Rattle.sk_isa.specs.Objects.{invoked, signature_at}
+use Rattle.sk_kernel.specs.Kernels.{Agree, Source, Suits, given_by}
+use Rattle.sk_isa.specs.SoundObjects.{HasSoundFunctions, TakesScalars}
+use Rattle.sk_isa.specs.Soundness.{SuitParams, is_scalar}
 use Rattle.sk_isa_laws.specs.Steps.{IsGiven}
 use Rattle.sk_isa_laws.proofs.Callees.{functions_have_values, there}
 use Rattle.sk_vm.specs.Arguments.{CanPass, Passes}
@@ -20,7 +23,7 @@ use Rattle.sk_vm.proofs.Middle.{params_scalar, scalar_slots}
 use Rattle.sk_vm.proofs.Starts.{signature_at-is}
 
 -- the parameters of each function are scalars, and at most 64
-pub scalars_only : (object : Object) → IsSound object → TakesScalars object → (function : ℕ) → function < length object.functions
+pub scalars_only : (object : Object) → HasSoundFunctions object → TakesScalars object → (function : ℕ) → function < length object.functions
     → (list_all is_scalar (signature_at object function).params ≡ true) × (length (signature_at object function).params ≤ 64)
 scalars_only object sound scalars function within =
     let count : length object.signatures ≡ suc (length object.functions) = sound.signatures in
@@ -32,7 +35,7 @@ scalars_only object sound scalars function within =
     (params_scalar own.0.params own.0.slots is_sound.slots (scalar_slots object function own.0 scalars own.1), is_sound.params)
 
 -- a value is of the function's type
-pub value-in_range : (object : Object) → IsSound object → (function : ℕ) → function < length object.functions → (arguments : List Argument)
+pub value-in_range : (object : Object) → HasSoundFunctions object → (function : ℕ) → function < length object.functions → (arguments : List Argument)
     → SuitParams (signature_at object function).params arguments → (value : ℤ) (left : ℕ) → function_of object function arguments turn_limit ≡ Ok (value, left)
     → InRange (signature_at object function).ret value
 value-in_range object sound function within arguments suits value left is =
@@ -46,10 +49,10 @@ value-in_range object sound function within arguments suits value left is =
     (subst (λ (r : Result (ℤ × ℕ) Trap). IsGiven own.0.ret turn_limit r) is given).0
 
 -- data that suits a function
-module _ (object : Object) (sound : IsSound object) (scalars : TakesScalars object) (function : ℕ) (within : function < length object.functions) (reading : Reading)
+module _ (object : Object) (sound : HasSoundFunctions object) (scalars : TakesScalars object) (function : ℕ) (within : function < length object.functions) (reading : Reading)
     (source : Source) (place pair : ℕ) (suits : Suits (function_meaning object function reading) source place pair) where
   pub passable : CanPass source reading.elements reading.pairs place pair (length (signature_at object function).params)
-  passable = can_pass (signature_at object function).params reading.elements reading.pairs source place pair (scalars_only object sound scalars function within).0 suits.uniforms suits.held
+  passable = can_pass (signature_at object function).params reading source place pair (scalars_only object sound scalars function within).0 suits.uniforms suits.held
 
   module _ (slots : List ℤ) (fit : length (signature_at object function).params ≤ length slots)
       (passes : Passes source reading.elements reading.pairs place pair (given_to object function slots)) where
@@ -58,7 +61,7 @@ module _ (object : Object) (sound : IsSound object) (scalars : TakesScalars obje
 
     pub given_suit : SuitParams (signature_at object function).params (map Value (given_to object function slots))
     given_suit =
-        suited (signature_at object function).params reading.elements reading.pairs source place pair (scalars_only object sound scalars function within).0 suits.uniforms suits.held
+        suited (signature_at object function).params reading source place pair (scalars_only object sound scalars function within).0 suits.uniforms suits.held
         (given_to object function slots) count passes
 
     pub begins_given : length slots ≡ slots_at object.functions function
@@ -71,5 +74,5 @@ module _ (object : Object) (sound : IsSound object) (scalars : TakesScalars obje
         ≡ (function_meaning object function reading).value (given_by source cells) place pair
     value_given cells agree =
         ap (λ (arguments : List Argument). invoked object function arguments)
-        (as_defined (signature_at object function).params reading.elements reading.pairs source place pair (scalars_only object sound scalars function within).0 suits.uniforms suits.held
+        (as_defined (signature_at object function).params reading source place pair (scalars_only object sound scalars function within).0 suits.uniforms suits.held
         (given_to object function slots) count passes cells agree)

@@ -1,52 +1,79 @@
 -- Marked functions never trap.
-use Rattle.std.proofs.Common.{◌≡◌, ℕ, zero, suc, ◌+◌, ◌<◌, Bool, true, nat_lt, List, [], ◌∷◌, length, ℤ, pos, Option, Some, None, Ok, IsSomeAnd, IsOk, slice_get, slice_index_or, refl, sym, ap, subst, ◌∙◌, arith}
-use Rattle.std.specs.List.{list_all}
+use Rattle.std.proofs.Common.{◌≡◌, ℕ, zero, suc, ◌+◌, ◌<◌, true, ◌&&◌, ◌==◌, nat_le, List, [], ◌∷◌, length, ℤ, pos, Option, Some, None, Ok, IsSomeAnd, IsOk, slice_get, slice_index_or, refl, sym, ap, subst, ◌∙◌, arith}
+use Rattle.std.specs.Prelude.{not}
+use Rattle.std.specs.List.{list_all, list_any}
+use Rattle.std.proofs.lemmas.Bool.{eqb-true}
 use Rattle.std.specs.Cmp.{first_so, second_so}
-use Rattle.std.proofs.lemmas.Bool.{and_from, lt-ltb}
 use Rattle.std.proofs.lemmas.Option.{get_or_from_slice_get, slice_get_within}
 use Rattle.sk_base.specs.declared.number.Ty.{Ty}
 use Rattle.sk_base.specs.declared.number.Ty.TheVariants.{Int, Long}
 use Rattle.sk_base.specs.Arithmetic.{InRange}
-use Rattle.sk_meaning.specs.Evaluation.{Value, kind_type}
+use Rattle.sk_meaning.specs.Evaluation.{Argument, Value}
 use Rattle.sk_tree.specs.declared.tree.ParamKind.{ParamKind}
 use Rattle.sk_tree.specs.declared.tree.ParamKind.TheVariants.{Scalar, Index, Proxy, Region}
 use Rattle.sk_tree.specs.declared.tree.Skeleton.{Skeleton}
 use Rattle.sk_tree.specs.declared.tree.Skeleton.TheVariants as skeleton
-use Rattle.sk_tree.specs.Skeletons.{function_count, is_operator}
-use Rattle.sk_tree.specs.Parameters.{same_type}
+use Rattle.sk_tree.specs.InstanceSettings.{default_settings}
+use Rattle.sk_tree.specs.Skeletons.{fits_skeleton, function_count, is_operator, is_over_pairs, operator_place}
+use Rattle.sk_tree.specs.Parameters.{index_dimension, index_fits, is_region, leading_scalars, same_type}
 use Rattle.sk_isa.specs.declared.object.Object.{Object}
 use Rattle.sk_isa.specs.declared.object.Plan.{Plan}
-use Rattle.sk_isa.specs.Instances.{arguments_from, element_place, function_at, instance_meaning, invoked, is_marked, operator_place, operator_type, reading_of, signature_at, uniform_types}
-use Rattle.sk_isa.specs.Kernels.{Given, NeverTraps, NeverTrapsJoining}
-use Rattle.sk_isa.specs.Soundness.{IsSound, IsSoundPlan, SuitParams, TakesScalars, is_scalar}
+use Rattle.sk_arguments.specs.Arguments.{At, Given, Reading, arguments_after, arguments_of, element_index, uniform_types}
+use Rattle.sk_kernel.specs.Kernels.{DependsOnReads, NeverTraps, NeverTrapsJoining}
+use Rattle.sk_isa.specs.Objects.{function_at, invoked, is_marked, signature_at}
+use Rattle.sk_kernel.specs.Instances.{function_meaning, instance_meaning, operator_type, reading_of}
+use Rattle.sk_isa.specs.SoundObjects.{HasSoundFunctions, IsSoundPlan, TakesScalars, takes_elements}
+use Rattle.sk_isa.specs.Soundness.{SuitParams, is_scalar}
 use Rattle.sk_isa_laws.proofs.TypedLists.{typed_at}
-use Rattle.sk_vm.specs.Instantiated.{IsLawful, RunsOperator}
-use Rattle.sk_vm.specs.Frames.{Framed}
-use Rattle.sk_vm.proofs.Arguments.{element_kind, later, none_plus, one_more, plus_none, same_test, uniform_type}
+use Rattle.sk_vm.specs.Instantiated.{IsInstance, IsLawful, RunsOperator}
+use Rattle.sk_vm.specs.Frames.{CountsPairs, Framed, MayRead}
+use Rattle.sk_vm.proofs.Arguments.{element_type, later, none_plus, one_more, plus_none, read_here, taken, uniform_type}
 use Rattle.sk_vm.proofs.Given.{scalars_only}
 
 -- arguments that are each of their parameter's type
-suits_defined : (given : Given) (pairs : Bool) (place pair elements operand uniform : ℕ) (kinds : List ParamKind) → list_all is_scalar kinds ≡ true
-    → ((k : ℕ) (ty : Ty) → slice_get kinds k ≡ Some (Scalar ty) → k < elements → InRange ty (given.cells (operand + k) (element_place pairs (operand + k) place pair)))
+suits_defined : (reading : Reading) (given : Given) (at : At) (elements operand uniform : ℕ) (kinds : List ParamKind) → list_all is_scalar kinds ≡ true
+    → ((k : ℕ) (ty : Ty) → slice_get kinds k ≡ Some (Scalar ty) → k < elements → InRange ty (given.cells (operand + k) (element_index reading at (operand + k))))
     → ((k : ℕ) (ty : Ty) → slice_get kinds (elements + k) ≡ Some (Scalar ty) → InRange ty (slice_index_or given.uniforms (uniform + k) (pos 0)))
-    → SuitParams kinds (arguments_from given pairs place pair elements operand uniform kinds)
-suits_defined given pairs place pair zero operand uniform [] scalars cells uniforms = tt
-suits_defined given pairs place pair (suc elements) operand uniform [] scalars cells uniforms = tt
-suits_defined given pairs place pair zero operand uniform (Scalar ty ∷ kinds) scalars cells uniforms = (
+    → SuitParams kinds (arguments_after reading given at (taken elements operand uniform) kinds)
+suits_defined reading given at elements operand uniform [] scalars cells uniforms = tt
+suits_defined reading given at zero operand uniform (Scalar ty ∷ kinds) scalars cells uniforms = (
   subst (λ (n : ℕ). InRange ty (slice_index_or given.uniforms n (pos 0))) (sym (plus_none uniform)) (uniforms 0 ty refl),
-  suits_defined given pairs place pair zero operand (suc uniform) kinds scalars (λ k own is less. absurd (omega arith))
+  suits_defined reading given at zero operand (suc uniform) kinds scalars (λ k own is less. absurd (omega arith))
       (λ k own is. subst (λ (n : ℕ). InRange own (slice_index_or given.uniforms n (pos 0))) (sym (later uniform k))
       (uniforms (suc k) own (ap (λ (n : ℕ). slice_get (Scalar ty ∷ kinds) n) (none_plus k) ∙ is))),
 )
-suits_defined given pairs place pair (suc elements) operand uniform (Scalar ty ∷ kinds) scalars cells uniforms = (
-  subst (λ (n : ℕ). InRange ty (given.cells n (element_place pairs n place pair))) (sym (plus_none operand)) (cells 0 ty refl (omega arith)),
-  suits_defined given pairs place pair elements (suc operand) uniform kinds scalars
-      (λ k own is less. subst (λ (n : ℕ). InRange own (given.cells n (element_place pairs n place pair))) (sym (later operand k)) (cells (suc k) own is (omega arith)))
+suits_defined reading given at (suc elements) operand uniform (Scalar ty ∷ kinds) scalars cells uniforms = (
+  subst (λ (n : ℕ). InRange ty (given.cells n (element_index reading at n))) (sym (plus_none operand)) (cells 0 ty refl (omega arith)),
+  suits_defined reading given at elements (suc operand) uniform kinds scalars
+      (λ k own is less. subst (λ (n : ℕ). InRange own (given.cells n (element_index reading at n))) (sym (later operand k)) (cells (suc k) own is (omega arith)))
       (λ k own is. uniforms k own (ap (λ (n : ℕ). slice_get (Scalar ty ∷ kinds) n) (one_more elements k) ∙ is)),
 )
-suits_defined given pairs place pair elements operand uniform (Index dimension ∷ kinds) scalars cells uniforms = cc
-suits_defined given pairs place pair elements operand uniform (Proxy dimension own ∷ kinds) scalars cells uniforms = cc
-suits_defined given pairs place pair elements operand uniform (Region dimension own ∷ kinds) scalars cells uniforms = cc
+suits_defined reading given at elements operand uniform (Index dimension ∷ kinds) scalars cells uniforms = cc
+suits_defined reading given at elements operand uniform (Proxy dimension own ∷ kinds) scalars cells uniforms = cc
+suits_defined reading given at elements operand uniform (Region dimension own ∷ kinds) scalars cells uniforms = cc
+
+-- data with the same uniform arguments, and the same elements, gives the same arguments
+same_arguments : (reading : Reading) (one other : Given) (at : At) (elements operand uniform : ℕ) (kinds : List ParamKind) → list_all is_scalar kinds ≡ true
+    → ((k : ℕ) (ty : Ty) → slice_get kinds k ≡ Some (Scalar ty) → k < elements
+    → one.cells (operand + k) (element_index reading at (operand + k)) ≡ other.cells (operand + k) (element_index reading at (operand + k)))
+    → one.uniforms ≡ other.uniforms
+    → arguments_after reading one at (taken elements operand uniform) kinds ≡ arguments_after reading other at (taken elements operand uniform) kinds
+same_arguments reading one other at elements operand uniform [] scalars cells uniforms = refl
+same_arguments reading one other at zero operand uniform (Scalar ty ∷ kinds) scalars cells uniforms =
+    ap (λ (xs : List ℤ). Value (slice_index_or xs uniform (pos 0)) ∷ arguments_after reading one at (taken zero operand (suc uniform)) kinds) uniforms
+    ∙ ap (λ (rest : List Argument). Value (slice_index_or other.uniforms uniform (pos 0)) ∷ rest)
+    (same_arguments reading one other at zero operand (suc uniform) kinds scalars (λ k own is less. absurd (omega arith)) uniforms)
+same_arguments reading one other at (suc elements) operand uniform (Scalar ty ∷ kinds) scalars cells uniforms =
+    let first : one.cells operand (element_index reading at operand) ≡ other.cells operand (element_index reading at operand) =
+    subst (λ (n : ℕ). one.cells n (element_index reading at n) ≡ other.cells n (element_index reading at n)) (sym (plus_none operand)) (cells 0 ty refl (omega arith)) in
+    ap (λ (x : ℤ). Value x ∷ arguments_after reading one at (taken elements (suc operand) uniform) kinds) first
+    ∙ ap (λ (rest : List Argument). Value (other.cells operand (element_index reading at operand)) ∷ rest)
+    (same_arguments reading one other at elements (suc operand) uniform kinds scalars
+    (λ k own is less. subst (λ (n : ℕ). one.cells n (element_index reading at n) ≡ other.cells n (element_index reading at n)) (sym (later operand k))
+    (cells (suc k) own is (omega arith))) uniforms)
+same_arguments reading one other at elements operand uniform (Index dimension ∷ kinds) scalars cells uniforms = cc
+same_arguments reading one other at elements operand uniform (Proxy dimension own ∷ kinds) scalars cells uniforms = cc
+same_arguments reading one other at elements operand uniform (Region dimension own ∷ kinds) scalars cells uniforms = cc
 
 -- the number that is there
 number_there : (ty : Ty) (numbers : List ℤ) (k : ℕ) → IsSomeAnd (slice_get numbers k) (InRange ty) → InRange ty (slice_index_or numbers k (pos 0))
@@ -111,44 +138,96 @@ operands_suit object plan fits place is a b in_a in_b =
     two_suit (signature_at object (function_at plan 0)).ret (signature_at object (function_at plan place)).params a b operator.params
     (subst (λ (ty : Ty). InRange ty a) operator.ret in_a) (subst (λ (ty : Ty). InRange ty b) operator.ret in_b)
 
-pub lawful : (object : Object) → IsSound object → TakesScalars object → (plan : Plan) → IsSoundPlan object plan → IsLawful (instance_meaning object plan)
-lawful object sound scalars plan fits = record { never_traps = never; never_traps_joining = joining }
+-- an index parameter that fits two dimensions
+counts_pairs : (index : Option ℕ) → elim index [ Some dimension ↦ dimension == 2 | None ↦ true ] ≡ true → CountsPairs index
+counts_pairs None e = tt
+counts_pairs (Some dimension) e = eqb-true dimension 2 e
+
+pairs_fit : (params : List ParamKind) → (not (list_any is_region params) && nat_le 2 (leading_scalars params) && index_fits params 2) ≡ true
+    → CountsPairs (index_dimension params)
+pairs_fit params fits =
+    counts_pairs (index_dimension params) (second_so (not (list_any is_region params) && nat_le 2 (leading_scalars params)) (index_fits params 2) fits)
+
+-- the first function of a sound plan may be read as the skeleton says
+pub may_read : (object : Object) (plan : Plan) → IsSoundPlan object plan → (index : Option ℕ) → index ≡ index_dimension (signature_at object (function_at plan 0)).params
+    → MayRead index plan.elements (is_over_pairs plan.skeleton)
+may_read object plan fits index is =
+    subst (λ (i : Option ℕ). MayRead i plan.elements (is_over_pairs plan.skeleton)) (sym is)
+    (by plan.skeleton (signature_at object (function_at plan 0)).ret (signature_at object (function_at plan 0)).params fits.first.kinds fits.first.elements)
   where
-    zero_plus : (k : ℕ) → k ≡ 0 + k
-    zero_plus k = omega arith
+    by : (kind : Skeleton) (ty : Ty) (params : List ParamKind) → fits_skeleton kind ty params ≡ true → takes_elements kind plan.elements params ≡ true
+        → MayRead (index_dimension params) plan.elements (is_over_pairs kind)
+    by skeleton.Map ty params kinds elements = tt
+    by skeleton.Reduce ty params kinds elements = tt
+    by skeleton.Scan ty params kinds elements = tt
+    by skeleton.MapReduce ty params kinds elements = tt
+    by skeleton.MapOverlap ty params kinds elements = tt
+    by skeleton.MapPairs ty params kinds elements = (eqb-true plan.elements 2 elements, pairs_fit params kinds)
+    by skeleton.MapPairsReduce ty params kinds elements = (eqb-true plan.elements 2 elements, pairs_fit params kinds)
+    by skeleton.Call ty params kinds elements = tt
 
-    never : NeverTraps (instance_meaning object plan)
-    never all given place pair suits =
-        let function = function_at plan 0 in
-        let reading = reading_of plan in
-        let some = first_function plan object fits in
-        let there : function < length object.functions = fits.there 0 0 some in
-        let params = (signature_at object function).params in
-        let only = (scalars_only object sound scalars function there).0 in
-        (sound.marks function (marked_at object plan.functions 0 all some)).has_value
-        (arguments_from given reading.pairs place pair reading.elements 0 0 params)
-        (suits_defined given reading.pairs place pair reading.elements 0 0 params only
-        (λ k ty is less. subst (λ (n : ℕ). InRange ty (given.cells n (element_place reading.pairs n place pair))) (zero_plus k)
-        (subst (λ (t : Ty). InRange t (given.cells k (element_place reading.pairs k place pair)))
-        (ap (λ (o : Option ParamKind). elim o [ Some kind ↦ kind_type kind | None ↦ Int ]) (element_kind reading.elements params k ty only is less))
-        (suits.held k (element_place reading.pairs k place pair)
-        (and_from (nat_lt k reading.elements) _ (lt-ltb k reading.elements less) (same_test (element_place reading.pairs k place pair))))))
-        (λ k ty is. subst (λ (n : ℕ). InRange ty (slice_index_or given.uniforms n (pos 0))) (zero_plus k)
-        (number_there ty given.uniforms k (typed_at (uniform_types reading.elements params) given.uniforms k ty suits.uniforms
-        (uniform_type reading.elements params k ty only is)))))
+-- an instance whose functions take scalars alone
+module _ (object : Object) (sound : HasSoundFunctions object) (scalars : TakesScalars object) (plan : Plan) (fits : IsSoundPlan object plan) where
+  abbrev params : List ParamKind
+  params = (signature_at object (function_at plan 0)).params
 
-    joining : NeverTrapsJoining (instance_meaning object plan)
-    joining all a b joined = by (operator_place plan.skeleton) refl joined
-      where
-        by : (found : Option ℕ) → operator_place plan.skeleton ≡ found
-            → IsSomeAnd (elim found [ Some place ↦ Some (signature_at object (function_at plan place)).ret | None ↦ None ]) (λ ty. InRange ty a × InRange ty b)
-            → IsOk (elim found [ Some place ↦ invoked object (function_at plan place) (Value a ∷ Value b ∷ []) | None ↦ Ok (pos 0) ])
-        by None is h = absurd h
-        by (Some place) is h =
-            let within = operator_within plan.skeleton place is in
-            let count = fits.count in
-            (sound.marks (function_at plan place) (marked_at object plan.functions place all (omega arith))).has_value (Value a ∷ Value b ∷ [])
-            (operands_suit object plan fits place is a b h.0 h.1)
+  abbrev reading : Reading
+  reading = reading_of plan default_settings
+
+  some : 0 < length plan.functions
+  some = first_function plan object fits
+
+  only : list_all is_scalar params ≡ true
+  only = (scalars_only object sound scalars (function_at plan 0) (fits.there 0 0 some)).0
+
+  zero_plus : (k : ℕ) → k ≡ 0 + k
+  zero_plus k = omega arith
+
+  never : NeverTraps (instance_meaning object plan default_settings)
+  never all given place pair suits =
+      let at : At = record { place = place; pair = pair } in
+      (sound.marks (function_at plan 0) (marked_at object plan.functions 0 all some)).has_value
+      (arguments_of reading params given at)
+      (suits_defined reading given at reading.elements 0 0 params only
+      (λ k ty is less. subst (λ (n : ℕ). InRange ty (given.cells n (element_index reading at n))) (zero_plus k)
+      (subst (λ (t : Ty). InRange t (given.cells k (element_index reading at k)))
+      (element_type reading.elements params k ty only is less)
+      (suits.held k (element_index reading at k) (read_here reading params given.shapes at k ty only is less))))
+      (λ k ty is. subst (λ (n : ℕ). InRange ty (slice_index_or given.uniforms n (pos 0))) (zero_plus k)
+      (number_there ty given.uniforms k (typed_at (uniform_types reading.elements params) given.uniforms k ty suits.uniforms
+      (uniform_type reading.elements params k ty only is)))))
+
+  depends : DependsOnReads (instance_meaning object plan default_settings)
+  depends one other place pair alike agree suits =
+      let at : At = record { place = place; pair = pair } in
+      ap (λ (arguments : List Argument). invoked object (function_at plan 0) arguments)
+      (same_arguments reading one other at reading.elements 0 0 params only
+      (λ k ty is less. subst (λ (n : ℕ). one.cells n (element_index reading at n) ≡ other.cells n (element_index reading at n)) (zero_plus k)
+      (agree k (element_index reading at k) (read_here reading params one.shapes at k ty only is less)))
+      alike.uniforms)
+
+  joining : NeverTrapsJoining (instance_meaning object plan default_settings)
+  joining all a b joined = by (operator_place plan.skeleton) refl joined
+    where
+      by : (found : Option ℕ) → operator_place plan.skeleton ≡ found
+          → IsSomeAnd (elim found [ Some place ↦ Some (signature_at object (function_at plan place)).ret | None ↦ None ]) (λ ty. InRange ty a × InRange ty b)
+          → IsOk (elim found [ Some place ↦ invoked object (function_at plan place) (Value a ∷ Value b ∷ []) | None ↦ Ok (pos 0) ])
+      by None is h = absurd h
+      by (Some place) is h =
+          let within = operator_within plan.skeleton place is in
+          let count = fits.count in
+          (sound.marks (function_at plan place) (marked_at object plan.functions place all (omega arith))).has_value (Value a ∷ Value b ∷ [])
+          (operands_suit object plan fits place is a b h.0 h.1)
+
+  pub lawful : IsLawful (instance_meaning object plan default_settings)
+  lawful = record { never_traps = never; never_traps_joining = joining; depends = depends }
+
+-- what an instance's first frame means
+pub frame_meaning : (object : Object) (plan : Plan) (first : Framed) (second : Option Framed) → IsInstance object plan first second
+    → function_meaning object first.function first.reading ≡ function_meaning object (function_at plan 0) (reading_of plan default_settings)
+frame_meaning object plan first second is =
+    ap (λ (f : ℕ). function_meaning object f first.reading) is.function
+    ∙ ap (λ (r : Reading). function_meaning object (function_at plan 0) r) is.reading
 
 -- what an instance's frames need
 pub frame_operands : (object : Object) (plan : Plan) → IsSoundPlan object plan → (frame : Framed) → RunsOperator object plan (operator_place plan.skeleton) (Some frame)
@@ -164,7 +243,7 @@ frame_operands object plan fits frame runs a b joined = by (operator_place plan.
         subst (λ (f : ℕ). SuitParams (signature_at object f).params (Value a ∷ Value b ∷ [])) (sym runs.1) (operands_suit object plan fits place is a b h.0 h.1)
 
 -- the plan of an instance that is there
-pub plan_fits : (object : Object) → IsSound object → (number : ℕ) (plan : Plan) → slice_get object.instances number ≡ Some plan → IsSoundPlan object plan
+pub plan_fits : (object : Object) → HasSoundFunctions object → (number : ℕ) (plan : Plan) → slice_get object.instances number ≡ Some plan → IsSoundPlan object plan
 plan_fits object sound number plan is =
     subst (IsSoundPlan object) (get_or_from_slice_get object.instances number plan plan is)
     (sound.instances number plan (slice_get_within object.instances number plan is))

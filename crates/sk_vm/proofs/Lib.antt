@@ -5,6 +5,7 @@ pub mod Finds
 pub mod Given
 pub mod Lawful
 pub mod Middle
+pub mod Ran
 pub mod Running
 pub mod Starts
 pub mod Values

@@ -12,11 +12,14 @@ use Rattle.sk_isa.specs.declared.code.Instr.{Instr}
 use Rattle.sk_isa.specs.declared.code.Instr.TheVariants.{Call}
 use Rattle.sk_isa.specs.declared.object.Object.{Object}
 use Rattle.sk_isa.specs.declared.object.Signature.{Signature}
-use Rattle.sk_isa.specs.Coded.{Next, function_of, next_of, returning}
-use Rattle.sk_isa.specs.Instances.{signature_at}
-use Rattle.sk_isa.specs.Soundness.{AreSlots, IsFineAt, IsSound, Named, SuitParams, TakesScalars, Types, is_scalar, leads_to, left_by, serves}
+use Rattle.sk_isa.specs.Coded.{Next, function_of, next_of}
+use Rattle.sk_isa.specs.Configurations.{returning}
+use Rattle.sk_isa.specs.Objects.{signature_at}
+use Rattle.sk_isa.specs.Soundness.{AreSlots, IsFineAt, Named, SuitParams, Types, is_scalar, leads_to, left_by, serves}
+use Rattle.sk_isa.specs.SoundObjects.{HasSoundFunctions, TakesScalars}
 use Rattle.sk_isa_laws.proofs.TypedLists.{typed-length}
 use Rattle.sk_vm.specs.declared.stack.Stand.{Stand}
+use Rattle.sk_vm.specs.Calls.{MayCall}
 use Rattle.sk_vm.specs.Needs.{Needs}
 use Rattle.sk_vm.specs.Points.{values_in, point_at}
 use Rattle.sk_vm.specs.Rooms.{depth_at, depth_below, slots_below}
@@ -40,8 +43,8 @@ pub record Here (named : Named) (code : Code) (instr : Instr) (at : ℕ) (types 
   pub behind : (to : ℕ) → Contains (leads_to instr at) to → length left ≤ code.depth
 
 here_at : (named : Named) (code : Code) (chosen : Types) (instr : Instr) (at : ℕ) (types : List Ty)
-    → ((at : ℕ) (types : List Ty) → chosen at ≡ Some types → IsFineAt named code chosen at types)
-    → IsFineAt named code chosen at types → slice_get code.instrs at ≡ Some instr → Here named code instr at types
+    → ((at : ℕ) (types : List Ty) → chosen at ≡ Some types → IsFineAt (left_by named) code chosen at types)
+    → IsFineAt (left_by named) code chosen at types → slice_get code.instrs at ≡ Some instr → Here named code instr at types
 here_at named code chosen instr at types each fine found =
     subst (λ (i : Instr). Here named code i at types) (same_Some fine.instr instr (sym fine.found ∙ found))
     (record { bounded = fine.bounded; left = fine.left; effect = fine.effect; behind = λ to led. reached to (at_target to led) })
@@ -123,17 +126,13 @@ module _ (object : Object) (function : ℕ) (begun : List ℤ) (turns : ℕ) (in
       (λ to led. let upto = at.behind to led in omega arith)
 
   -- what a call needs
-  pub record CallReady (callee rest : ℕ) : Type 0 where
+  pub record CallReady (callee : ℕ) (rest : List ℤ) : Type 0 where
     pub before : callee < function
     pub there : callee < length object.functions
-    pub takes : length (signature_at object callee).params ≤ stand.top
-    pub suited : SuitParams (signature_at object callee).params (map Value (reverse (take (length (signature_at object callee).params) (values_in stack stand.top))))
-    pub value : stand.top < length stack + length (signature_at object callee).params
-    pub depth : depth_below object.functions (suc callee) + stand.top ≤ length stack + length (signature_at object callee).params
-    pub room : slots_below object.functions (suc callee) ≤ rest
+    pub may : MayCall (record { object = object; function = callee }) stand stack rest
 
-  pub call_ready : (callee rest : ℕ) → function < length object.functions → slice_get instrs stand.at ≡ Some (Call callee)
-      → depth_below object.functions (suc function) ≤ length stack → slots_below object.functions function ≤ rest → CallReady callee rest
+  pub call_ready : (callee : ℕ) (rest : List ℤ) → function < length object.functions → slice_get instrs stand.at ≡ Some (Call callee)
+      → depth_below object.functions (suc function) ≤ length stack → slots_below object.functions function ≤ length rest → CallReady callee rest
   call_ready callee rest upto found deep_enough wide_enough =
       let at = here (Call callee) found in
       let finds = call_found named callee running.point.types at.left (values_in stack stand.top) at.effect running.point.stack in
@@ -151,15 +150,18 @@ module _ (object : Object) (function : ℕ) (begun : List ℤ) (turns : ℕ) (in
       record {
         before = finds.before;
         there = omega arith;
-        takes = omega arith;
-        suited = subst (λ (s : Signature). SuitParams s.params (map Value (reverse (take (length s.params) (values_in stack stand.top))))) (sym is) finds.suited;
-        value = omega arith;
-        depth = omega arith;
-        room = let slots = slots_below-le object.functions (suc callee) function (omega arith) in omega arith;
+        may = record {
+          inside = inside deep_enough;
+          takes = omega arith;
+          suited = subst (λ (s : Signature). SuitParams s.params (map Value (reverse (take (length s.params) (values_in stack stand.top))))) (sym is) finds.suited;
+          value = omega arith;
+          depth = omega arith;
+          slots = let slots = slots_below-le object.functions (suc callee) function (omega arith) in omega arith;
+        };
       }
 
   -- where a call leads, by what it gave
-  pub call_leads : IsSound object → (callee rest : ℕ) → CallReady callee rest → function < length object.functions → (instr : Instr) → instr ≡ Call callee
+  pub call_leads : HasSoundFunctions object → (callee : ℕ) (rest : List ℤ) → CallReady callee rest → function < length object.functions → (instr : Instr) → instr ≡ Call callee
       → (stack_then slots_then : List ℤ) → stack_then ≡ stack → slots_then ≡ slots → (next : Next)
       → next
       ≡ returning (point_at stand stack_then slots_then) (drop (length (signature_at object callee).params) (values_in stack_then stand.top))
@@ -167,7 +169,7 @@ module _ (object : Object) (function : ℕ) (begun : List ℤ) (turns : ℕ) (in
       → next_of (routine_at object function running.code begun) instr (point_at stand stack slots) ≡ next
   call_leads sound callee rest ready upto instr is stack_then slots_then same_stack same_slots next led =
       let size = length-values_in stack stand.top in
-      let takes = ready.takes in
+      let takes = ready.may.takes in
       ap (λ (i : Instr). next_of (routine_at object function running.code begun) i (point_at stand stack slots)) is
       ∙ calls-next object sound function callee (omega arith) ready.before (routine_at object function running.code begun) refl (point_at stand stack slots) (omega arith)
       ∙ ap (λ (xs : List ℤ). returning (point_at stand xs slots) (drop (length (signature_at object callee).params) (values_in xs stand.top))

@@ -7,7 +7,8 @@ use Rattle.sk_isa.specs.declared.code.Code.{Code}
 use Rattle.sk_isa.specs.declared.code.Instr.{Instr}
 use Rattle.sk_isa.specs.declared.object.Object.{Object}
 use Rattle.sk_isa.specs.declared.object.Signature.{Signature}
-use Rattle.sk_isa.specs.Coded.{Point, Routine, Next, Goes, Ends, Ended, followed, next_of, outcome_of, routine_of, callees_below, function_of}
+use Rattle.sk_isa.specs.Coded.{Point, Routine, Next, next_of, outcome_of, routine_of, callees_below, function_of}
+use Rattle.sk_isa.specs.Configurations.{Goes, Ends, Ended, followed}
 use Rattle.sk_isa_laws.specs.Ranks.{rank}
 use Rattle.sk_isa.specs.Soundness.{IsSoundCode, SuitParams}
 use Rattle.sk_isa_laws.specs.Steps.{IsFineNext, IsFinePoint, IsFineStep}
@@ -17,12 +18,12 @@ use Rattle.sk_vm.specs.Points.{point_at}
 use Rattle.sk_vm.specs.Rooms.{given_to}
 
 -- the arguments with which a function was begun
-abbrev pub arguments_of : Object → (function : ℕ) → (begun : List ℤ) → List Argument
-arguments_of object function begun = map Value (given_to object function begun)
+abbrev pub begun_with : Object → (function : ℕ) → (begun : List ℤ) → List Argument
+begun_with object function begun = map Value (given_to object function begun)
 
 abbrev pub routine_at : Object → (function : ℕ) → Code → (begun : List ℤ) → Routine
 routine_at object function code begun =
-    routine_of (callees_below object.signatures object.functions function) code (arguments_of object function begun)
+    routine_of (callees_below object.signatures object.functions function) code (begun_with object function begun)
 
 -- The run stands at a fine point, and what it comes to from there is the function's value.
 pub record Running (object : Object) (function : ℕ) (begun : List ℤ) (turns : ℕ) (instrs : List Instr) (stand : Stand) (stack slots : List ℤ) : Type 0 where
@@ -32,13 +33,13 @@ pub record Running (object : Object) (function : ℕ) (begun : List ℤ) (turns 
   pub own_at : slice_get object.signatures function ≡ Some own
   pub instrs_are : instrs ≡ code.instrs
   pub sound : IsSoundCode object.signatures function own code
-  pub suits : SuitParams own.params (arguments_of object function begun)
+  pub suits : SuitParams own.params (begun_with object function begun)
   pub fine : (point : Point) → IsFinePoint own sound.types.chosen point
       → IsSomeAnd (slice_get code.instrs point.at) (λ instr. IsFineNext own sound.types.chosen instr point (next_of (routine_at object function code begun) instr point))
   pub point : IsFinePoint own sound.types.chosen (point_at stand stack slots)
   pub comes_to : (steps : ℕ) (result : Result (ℤ × ℕ) Trap)
       → outcome_of (routine_at object function code begun) steps (point_at stand stack slots) ≡ Ended result
-      → function_of object function (arguments_of object function begun) turns ≡ result
+      → function_of object function (begun_with object function begun) turns ≡ result
 
 -- what a step leads to, where it is known
 step_fine : (own : Signature) (chosen : ℕ → Option (List Ty)) (routine : Routine) (instr found : Instr) (point : Point) (next : Next) (at : Option Instr)
@@ -83,7 +84,7 @@ pub ends_with : (object : Object) (function : ℕ) (begun : List ℤ) (turns : �
     → slice_get instrs stand.at ≡ Some instr
     → (running : Running object function begun turns instrs stand stack slots)
     → next_of (routine_at object function running.code begun) instr (point_at stand stack slots) ≡ Ends result
-    → function_of object function (arguments_of object function begun) turns ≡ result
+    → function_of object function (begun_with object function begun) turns ≡ result
 ends_with object function begun turns instrs stand stack slots instr result found running leads =
     let routine = routine_at object function running.code begun in
     let at : slice_get running.code.instrs stand.at ≡ Some instr = ap (λ (is : List Instr). slice_get is stand.at) (sym running.instrs_are) ∙ found in

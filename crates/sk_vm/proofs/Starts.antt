@@ -7,15 +7,16 @@ use Rattle.sk_isa.specs.declared.code.Instr.{Instr}
 use Rattle.sk_isa.specs.declared.object.Object.{Object}
 use Rattle.sk_isa.specs.declared.object.Signature.{Signature}
 use Rattle.sk_isa.specs.Coded.{Point, outcome_of, start_of}
-use Rattle.sk_isa.specs.Instances.{no_signature, signature_at}
-use Rattle.sk_isa.specs.Soundness.{IsSound, SuitParams}
+use Rattle.sk_isa.specs.Objects.{no_signature, signature_at}
+use Rattle.sk_isa.specs.SoundObjects.{HasSoundFunctions}
+use Rattle.sk_isa.specs.Soundness.{SuitParams}
 use Rattle.sk_isa_laws.specs.Steps.{IsFinePoint}
 use Rattle.sk_isa_laws.proofs.Callees.{are_ready, functions_have_values, there}
 use Rattle.sk_isa_laws.proofs.Runs.{start_is_fine, steps_are_fine}
 use Rattle.sk_isa_laws.proofs.TypedLists.{suited-length}
 use Rattle.sk_vm.specs.Points.{values_in, point_at}
 use Rattle.sk_vm.specs.Rooms.{Begins, given_to, instrs_at, slots_at}
-use Rattle.sk_vm.proofs.Running.{Running, arguments_of, routine_at}
+use Rattle.sk_vm.proofs.Running.{Running, begun_with, routine_at}
 
 pub signature_at-is : (object : Object) (function : ℕ) (own : Signature) → slice_get object.signatures function ≡ Some own → signature_at object function ≡ own
 signature_at-is object function own is = ap (λ (o : Option Signature). elim o [ Some signature ↦ signature | None ↦ no_signature ]) is
@@ -32,39 +33,39 @@ numbers-back (number ∷ numbers) = ap (λ (xs : List ℤ). number ∷ xs) (numb
 
 -- slots that begin as they should are those at the start of the code
 slots-start : (object : Object) (function : ℕ) (code : Code) (slots : List ℤ) → slice_get object.functions function ≡ Some code → Begins object function slots
-    → slots ≡ map number_in (arguments_of object function slots) ++ replicate (code.slots - length (arguments_of object function slots)) (pos 0)
+    → slots ≡ map number_in (begun_with object function slots) ++ replicate (code.slots - length (begun_with object function slots)) (pos 0)
 slots-start object function code slots code_at begins =
     let params = (signature_at object function).params in
     let given = given_to object function slots in
-    let count : length params ≡ length (arguments_of object function slots) = suited-length params (arguments_of object function slots) begins.suited in
+    let count : length params ≡ length (begun_with object function slots) = suited-length params (begun_with object function slots) begins.suited in
     let size : length slots ≡ code.slots = begins.count ∙ slots_at-is object.functions function code code_at in
     sym (take-append-drop (length params) slots)
     ∙ ap (λ (xs : List ℤ). given ++ xs) begins.others
     ∙ ap (λ (n : ℕ). given ++ replicate (n - length params) (pos 0)) size
     ∙ ap (λ (n : ℕ). given ++ replicate (code.slots - n) (pos 0)) count
-    ∙ ap (λ (xs : List ℤ). xs ++ replicate (code.slots - length (arguments_of object function slots)) (pos 0)) (sym (numbers-back given))
+    ∙ ap (λ (xs : List ℤ). xs ++ replicate (code.slots - length (begun_with object function slots)) (pos 0)) (sym (numbers-back given))
 
 none : (stack : List ℤ) → values_in stack 0 ≡ []
 unfolding values_in
 none stack = refl
 
 point-start : (object : Object) (function : ℕ) (code : Code) (stack slots : List ℤ) (turns : ℕ) → slice_get object.functions function ≡ Some code → Begins object function slots
-    → start_of code (arguments_of object function slots) turns ≡ point_at (record { at = 0; top = 0; turns = turns }) stack slots
+    → start_of code (begun_with object function slots) turns ≡ point_at (record { at = 0; top = 0; turns = turns }) stack slots
 point-start object function code stack slots turns code_at begins =
     let stacks = none stack in
     let kept = slots-start object function code slots code_at begins in
     cc
 
-pub starts : (object : Object) → IsSound object → (function : ℕ) → function < length object.functions → (slots : List ℤ) → Begins object function slots
+pub starts : (object : Object) → HasSoundFunctions object → (function : ℕ) → function < length object.functions → (slots : List ℤ) → Begins object function slots
     → (turns : ℕ) (stack : List ℤ) (instrs : List Instr) → instrs ≡ instrs_at object.functions function
     → Running object function slots turns instrs (record { at = 0; top = 0; turns = turns }) stack slots
 starts object sound function within slots begins turns stack instrs is =
     let code = there object.functions function within in
     let count : length object.signatures ≡ suc (length object.functions) = sound.signatures in
     let own = there object.signatures function (omega arith) in
-    let suits : SuitParams own.0.params (arguments_of object function slots) =
-    subst (λ (s : Signature). SuitParams s.params (arguments_of object function slots)) (signature_at-is object function own.0 own.1) begins.suited in
-    let ready = are_ready object sound function own.0 code.0 (arguments_of object function slots) own.1 code.1 suits in
+    let suits : SuitParams own.0.params (begun_with object function slots) =
+    subst (λ (s : Signature). SuitParams s.params (begun_with object function slots)) (signature_at-is object function own.0 own.1) begins.suited in
+    let ready = are_ready object sound function own.0 code.0 (begun_with object function slots) own.1 code.1 suits in
     let start = point-start object function code.0 stack slots turns code.1 begins in
     record {
       code = code.0;
@@ -74,10 +75,10 @@ starts object sound function within slots begins turns stack instrs is =
       instrs_are = is ∙ instrs_at-is object.functions function code.0 code.1;
       sound = ready.sound;
       suits = suits;
-      fine = steps_are_fine object.signatures function own.0 code.0 _ (arguments_of object function slots) ready;
+      fine = steps_are_fine object.signatures function own.0 code.0 _ (begun_with object function slots) ready;
       point = subst (λ (p : Point). IsFinePoint own.0 ready.sound.types.chosen p) start
-          (start_is_fine object.signatures function own.0 code.0 (arguments_of object function slots) turns ready.sound suits);
+          (start_is_fine object.signatures function own.0 code.0 (begun_with object function slots) turns ready.sound suits);
       comes_to = λ steps result ended.
-          ((functions_have_values object sound).values function own.0 code.0 (arguments_of object function slots) turns own.1 code.1 suits).alone steps result
+          ((functions_have_values object sound).values function own.0 code.0 (begun_with object function slots) turns own.1 code.1 suits).alone steps result
           (ap (λ (p : Point). outcome_of (routine_at object function code.0 slots) steps p) start ∙ ended);
     }

@@ -6,7 +6,8 @@ use Rattle.sk_base.specs.declared.number.Ty.{Ty}
 use Rattle.sk_base.specs.declared.number.Trap.{Trap}
 use Rattle.sk_base.specs.Arithmetic.{op_of}
 use Rattle.std.specs.Prelude.{Ok, Err}
-use Rattle.sk_isa.specs.Coded.{Routine, Next, Goes, Ends, next_of, going, giving, with_two}
+use Rattle.sk_isa.specs.Coded.{Routine, Next, by_trap, next_of}
+use Rattle.sk_isa.specs.Configurations.{Goes, Ends, going, giving, with_two}
 use Rattle.sk_isa.specs.declared.code.Instr.TheVariants.{Binary}
 use Rattle.sk_vm.specs.declared.stack.Stand.{Stand}
 use Rattle.sk_vm.specs.Points.{values_in, point_at}
@@ -49,7 +50,7 @@ with_two-in buffer top next two =
 
 -- an instruction that only moves values leads to the next address
 pub going-in : (stand next : Stand) (stack after slots slots_after values : List ℤ) → next.at ≡ suc stand.at → next.turns ≡ stand.turns → slots_after ≡ slots → values_in after next.top ≡ values
-    → going (point_at stand stack slots) values ≡ Goes (point_at next after slots_after)
+    → going {F = Trap} (point_at stand stack slots) values ≡ Goes (point_at next after slots_after)
 going-in stand next stack after slots slots_after values at turns same top = cc
 
 -- an operator's value in place of its operands
@@ -60,7 +61,7 @@ pub combines : (op : Op) (ty : Ty) (stand next : Stand) (stack after slots : Lis
     → next_of routine (Binary op ty) (point_at stand stack slots) ≡ Goes (point_at next after slots)
 combines op ty stand next stack after slots routine value two is to top =
     with_two-in stack stand.top _ two
-    ∙ ap (giving (point_at stand stack slots) (values_in stack (stand.top - 2))) is
+    ∙ ap (giving by_trap (point_at stand stack slots) (values_in stack (stand.top - 2))) is
     ∙ going-in stand next stack after slots slots (value ∷ values_in stack (stand.top - 2)) (ap (λ (s : Stand). s.at) to) (ap (λ (s : Stand). s.turns) to) refl
     (ap (λ (s : Stand). values_in after s.top) to ∙ top)
 
@@ -68,7 +69,7 @@ pub combining_traps : (op : Op) (ty : Ty) (stand : Stand) (stack slots : List �
     → op_of op ty (slice_index_or stack (stand.top - 2) (pos 0)) (slice_index_or stack (stand.top - 1) (pos 0)) ≡ Err trap
     → next_of routine (Binary op ty) (point_at stand stack slots) ≡ Ends (Err trap)
 combining_traps op ty stand stack slots routine trap two is =
-    with_two-in stack stand.top _ two ∙ ap (giving (point_at stand stack slots) (values_in stack (stand.top - 2))) is
+    with_two-in stack stand.top _ two ∙ ap (giving by_trap (point_at stand stack slots) (values_in stack (stand.top - 2))) is
 
 -- which value the topmost one is
 pub last-is : (buffer : List ℤ) (top : ℕ) (value : ℤ) (rest : List ℤ) → 0 < top → values_in buffer top ≡ value ∷ rest → value ≡ slice_index_or buffer (top - 1) (pos 0)

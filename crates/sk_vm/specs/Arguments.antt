@@ -1,13 +1,12 @@
 -- Arguments that a function reads from data.
 use Rattle.std.specs.Prelude.{◌≡◌, ℕ, ◌-◌, ◌<◌, Bool, nat_lt, if◌then◌else◌, List, length, ℤ, pos, Option, Some, IsSome, slice_get, slice_index_or}
-use Rattle.sk_isa.specs.Instances.{element_place}
-use Rattle.sk_isa.specs.Kernels.{Source}
+use Rattle.sk_kernel.specs.Kernels.{place_in, Source}
 
 -- what the data has for a parameter: a cell of the operand for an element, and else a uniform argument
-abbrev pub argument_at : Source → (elements : ℕ) → (pairs : Bool) → (place pair : ℕ) → (parameter : ℕ) → Option ℤ
+abbrev pub argument_at : Source → (elements : ℕ) → (pairs : Bool) → (place pair parameter : ℕ) → Option ℤ
 argument_at source elements pairs place pair parameter =
     if nat_lt parameter elements
-    then source.held parameter (element_place pairs parameter place pair)
+    then source.held parameter (place_in pairs place pair parameter)
     else slice_get source.uniforms (parameter - elements)
 
 -- the data has something for each of so many parameters

@@ -1,6 +1,6 @@
 -- Functions that the machine may enter.
 use Rattle.std.specs.Prelude.{ℕ, ◌<◌, length}
-use Rattle.sk_isa.specs.Soundness.{IsSound, TakesScalars}
+use Rattle.sk_isa.specs.SoundObjects.{HasSoundFunctions, TakesScalars}
 use Rattle.sk_isa.specs.declared.object.Object.{Object}
 
 -- a function of a compiled program, by its number
@@ -10,6 +10,6 @@ pub record Entered : Type 0 where
 
 -- The program is sound, its functions take scalars alone, and the function is one of them.
 pub record MayEnter (entry : Entered) : Type 0 where
-  pub sound : IsSound entry.object
+  pub sound : HasSoundFunctions entry.object
   pub scalars : TakesScalars entry.object
   pub there : entry.function < length entry.object.functions

@@ -1,22 +1,43 @@
 -- Frames: a function with room for its calls.
-use Rattle.std.specs.Prelude.{◌≡◌, ℕ, suc, false, ◌<◌, ◌≤◌, length}
-use Rattle.sk_isa.specs.Instances.{Reading}
+use Rattle.std.specs.Prelude.{◌≡◌, ℕ, suc, Bool, true, false, ◌≤◌, Option, Some, None}
+use Rattle.sk_arguments.specs.Arguments.{Reading}
+use Rattle.sk_isa.specs.Objects.{signature_at}
 use Rattle.sk_isa.specs.declared.object.Object.{Object}
+use Rattle.sk_tree.specs.InstanceSettings.{default_settings}
+use Rattle.sk_tree.specs.Parameters.{index_dimension}
+use Rattle.sk_vm.specs.Entries.{MayEnter}
 use Rattle.sk_vm.specs.Rooms.{depth_below, slots_below}
 
--- a function's number, how it reads its parameters, and how many values and slots there is room for
+-- a function's number, the dimension of its index parameter if it has one, how it reads its parameters, and how many values
+-- and slots there is room for
 pub record Framed : Type 0 where
   pub function : ℕ
+  pub index : Option ℕ
   pub reading : Reading
   pub stack : ℕ
   pub slots : ℕ
 
--- the frame's function is there, and there is room for its calls
+-- The frame's function may be entered, with that index parameter, and there is room for its calls.
 pub record HasRoom (object : Object) (frame : Framed) : Type 0 where
-  pub there : frame.function < length object.functions
+  pub entered : MayEnter (record { object = object; function = frame.function })
+  pub index : frame.index ≡ index_dimension (signature_at object frame.function).params
   pub stack : depth_below object.functions (suc frame.function) ≤ frame.stack
   pub slots : slots_below object.functions (suc frame.function) ≤ frame.slots
 
+-- so many elements, at places or at pairs of places, with the settings of an instance that sets none
+abbrev pub reading_by : (elements : ℕ) → (pairs : Bool) → Reading
+reading_by elements pairs = record { elements = elements; pairs = pairs; settings = default_settings }
+
+-- no index parameter, or one of two dimensions
+abbrev pub CountsPairs : (index : Option ℕ) → Type 0
+CountsPairs None = Unit {0}
+CountsPairs (Some dimension) = dimension ≡ 2
+
+-- At pairs of places a function reads two elements, and its index parameter, if it has one, is a pair.
+abbrev pub MayRead : (index : Option ℕ) → (elements : ℕ) → (pairs : Bool) → Type 0
+MayRead index elements false = Unit {0}
+MayRead index elements true = (elements ≡ 2) × CountsPairs index
+
 -- a frame of a function, all of whose parameters are uniform arguments
 abbrev pub IsUnread : (function : ℕ) → Framed → Type 0
-IsUnread function frame = (frame.function ≡ function) × (frame.reading ≡ record { elements = 0; pairs = false })
+IsUnread function frame = (frame.function ≡ function) × (frame.reading ≡ reading_by 0 false)

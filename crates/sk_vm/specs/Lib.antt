@@ -1,4 +1,5 @@
 pub mod Arguments
+pub mod Calls
 pub mod Entries
 pub mod Frames
 pub mod Instantiated

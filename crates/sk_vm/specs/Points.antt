@@ -3,7 +3,8 @@ use Rattle.std.specs.Prelude.{◌≡◌, ℕ, zero, suc, List, [], ◌∷◌, �
 use Rattle.sk_base.specs.declared.number.Op.{Op}
 use Rattle.sk_base.specs.declared.number.Ty.{Ty}
 use Rattle.sk_base.specs.declared.number.Trap.{Trap}
-use Rattle.sk_isa.specs.Coded.{Point, Routine, Next, Goes, Ends, next_of}
+use Rattle.sk_isa.specs.Coded.{Point, Routine, Next, next_of}
+use Rattle.sk_isa.specs.Configurations.{Goes, Ends}
 use Rattle.sk_isa.specs.declared.code.Instr.{Instr}
 use Rattle.sk_isa.specs.declared.code.Instr.TheVariants.{Call, Binary}
 use Rattle.sk_vm.specs.declared.stack.Stand.{Stand}
@@ -18,7 +19,7 @@ values_in buffer (suc fewer) = slice_index_or buffer fewer (pos 0) ∷ values_in
 -- where a run stands whose stack and slots lie in these buffers
 abbrev pub point_at : Stand → (stack slots : List ℤ) → Point
 point_at stand stack slots =
-    record { at = stand.at; stack = values_in stack stand.top; slots = slots; turns = stand.turns }
+    record { at = stand.at; stack = values_in stack stand.top; slots = slots; kept = stand.turns }
 
 -- An instruction leads from a point to where it is said to lead, whatever functions and arguments there are; a call is left
 -- to be done.

@@ -1,7 +1,7 @@
 -- Room for the calls of functions.
 use Rattle.std.specs.Prelude.{◌≡◌, ℕ, zero, suc, ◌+◌, ◌-◌, List, [], length, take, drop, map, replicate, ℤ, pos, Some, None, slice_get}
 use Rattle.sk_meaning.specs.Evaluation.{Value}
-use Rattle.sk_isa.specs.Instances.{signature_at}
+use Rattle.sk_isa.specs.Objects.{signature_at}
 use Rattle.sk_isa.specs.Soundness.{SuitParams}
 use Rattle.sk_isa.specs.declared.code.Code.{Code}
 use Rattle.sk_isa.specs.declared.code.Instr.{Instr}

@@ -1,14 +1,18 @@
 ghost use Rattle.std.proofs.Props.{props};
 ghost use Rattle.std.specs.Prelude.{◌≡◌, ◌<◌, length, IfOk};
-ghost use Rattle.sk_isa.specs.Instances.{function_at, instance_meaning, is_marked, is_over_pairs, operator_place};
-ghost use Rattle.sk_isa.specs.Soundness.{IsSound, IsSoundPlan, TakesScalars};
+ghost use Rattle.sk_isa.specs.Objects.{function_at, is_marked};
+ghost use Rattle.sk_kernel.specs.Instances.{instance_meaning};
+ghost use Rattle.sk_tree.specs.InstanceSettings.{default_settings};
+ghost use Rattle.sk_tree.specs.Skeletons.{is_over_pairs, operator_place};
+ghost use Rattle.sk_isa.specs.SoundObjects.{HasSoundFunctions, IsSoundPlan, TakesScalars};
 ghost use Rattle.sk_vm.specs.Frames.{HasRoom};
 ghost use Rattle.sk_vm.specs.Instantiated.{IsLawful, RunsOperator};
 
 use crate::frame::Frame;
 use crate::parts::plan_at;
 use sk_base::{Cell, Trap};
-use sk_isa::{At, Data, Kernel, Object, Plan};
+use sk_isa::{Object, Plan};
+use sk_kernel::{At, Data, Kernel, RunTrap};
 use sk_tree::Skeleton;
 use std::alloc::{AllocError, Global};
 use std::marker::Model;
@@ -20,7 +24,7 @@ pub struct Coded<'a> {
     plan: &'a Plan,
     first: Frame,
     operator: Option<Frame>,
-    ghost lawful: { IsLawful (instance_meaning object.now plan.now) } by { Prim.hlevel props },
+    ghost lawful: { IsLawful (instance_meaning object.now plan.now default_settings) } by { Prim.hlevel props },
 }
 
 impl<'a> Model for Coded<'a> {
@@ -35,12 +39,12 @@ impl<'a> Model for Coded<'a> {
 
 impl<'a> Coded<'a> {
     ghost use Rattle.std.specs.Prelude.{◌≡◌, ◌<◌, length, IfOk};
-    ghost use Rattle.sk_isa.specs.Soundness.{IsSound, TakesScalars};
+    ghost use Rattle.sk_isa.specs.SoundObjects.{HasSoundFunctions, TakesScalars};
     ghost use Rattle.sk_vm.specs.Instantiated.{IsOf};
 
     /// An instance by its number, with room for all its calls.
     pub fn new(alloc: Global, object: &'a Object, instance: u32) -> Result<Coded<'a>, AllocError>
-        requires sound { IsSound object.now }
+        requires sound { HasSoundFunctions object.now }
         requires scalars { TakesScalars object.now }
         requires there { instance < length object.now.instances }
         ensures { IfOk result (IsOf object.now instance) }
@@ -68,6 +72,11 @@ impl<'a> Kernel for Coded<'a> {
         self.first.run(object, source, at)
     }
 
+    fn apply_each<D: Data>(&mut self, source: &D, at: At, out: &mut [Cell]) -> Result<(), RunTrap> {
+        let object = self.object;
+        self.first.run_each(object, source, at, out)
+    }
+
     fn combine(&mut self, a: Cell, b: Cell) -> Result<Cell, Trap> {
         let object = self.object;
         match &mut self.operator {
@@ -88,6 +97,8 @@ impl<'a> Kernel for Coded<'a> {
     ghost never_traps = { λ kernel. kernel.lawful.never_traps };
 
     ghost never_traps_joining = { λ kernel. kernel.lawful.never_traps_joining };
+
+    ghost depends_on_reads = { λ kernel. kernel.lawful.depends };
 }
 
 /// Whether a function is marked as one that never traps.
@@ -120,7 +131,7 @@ fn operator_at(skeleton: Skeleton) -> Option<usize>
 
 /// A frame for one of an instance's functions.
 fn frame_at(alloc: Global, object: &Object, plan: &Plan, place: usize) -> Result<Frame, AllocError>
-    requires sound { IsSound object.now }
+    requires sound { HasSoundFunctions object.now }
     requires scalars { TakesScalars object.now }
     requires fits { IsSoundPlan object.now plan.now }
     requires there { place < length plan.now.functions }
@@ -132,7 +143,7 @@ fn frame_at(alloc: Global, object: &Object, plan: &Plan, place: usize) -> Result
 
 /// A frame for the operator, if there is one.
 fn operator_frame(alloc: Global, object: &Object, plan: &Plan) -> Result<Option<Frame>, AllocError>
-    requires sound { IsSound object.now }
+    requires sound { HasSoundFunctions object.now }
     requires scalars { TakesScalars object.now }
     requires fits { IsSoundPlan object.now plan.now }
     ensures { IfOk result (RunsOperator object.now plan.now (operator_place plan.now.skeleton)) }

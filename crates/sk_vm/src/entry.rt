@@ -1,5 +1,5 @@
 ghost use Rattle.std.specs.Prelude.{◌≡◌, ◌<◌, length};
-ghost use Rattle.sk_isa.specs.Instances.{signature_at};
+ghost use Rattle.sk_isa.specs.Objects.{signature_at};
 ghost use Rattle.sk_vm.specs.Entries.{Entered, MayEnter};
 ghost use Rattle.sk_vm.specs.Rooms.{instrs_at, slots_at};
 

@@ -1,16 +1,20 @@
-ghost use Rattle.std.specs.Prelude.{◌≡◌, ℕ, ℤ, ◌<◌, ◌≤◌, ◌^◌, suc, false, List, [], ◌∷◌, length, IfOk};
+ghost use Rattle.std.specs.Prelude.{◌≡◌, ℕ, ℤ, All, ◌<◌, ◌≤◌, ◌+◌, ◌^◌, suc, List, [], ◌∷◌, length, IfOk};
 ghost use Rattle.sk_base.specs.Arithmetic.{InRange};
-ghost use Rattle.sk_isa.specs.Instances.{function_meaning, invoked, signature_at};
-ghost use Rattle.sk_isa.specs.Kernels.{Suits, Agree, given_by};
-ghost use Rattle.sk_isa.specs.Soundness.{IsSound, SuitParams, TakesScalars};
+ghost use Rattle.sk_kernel.specs.Instances.{function_meaning};
+ghost use Rattle.sk_isa.specs.Objects.{invoked, signature_at};
+ghost use Rattle.sk_kernel.specs.Kernels.{Suits, SuitsRun, Agree, AgreeRun, AreValues, given_by, run_value};
+ghost use Rattle.sk_isa.specs.SoundObjects.{HasSoundFunctions, TakesScalars};
+ghost use Rattle.sk_isa.specs.Soundness.{SuitParams};
 ghost use Rattle.sk_meaning.specs.Evaluation.{Value};
-ghost use Rattle.sk_vm.specs.Frames.{HasRoom, IsUnread};
+ghost use Rattle.sk_vm.specs.Frames.{HasRoom, IsUnread, MayRead, reading_by};
 ghost use Rattle.sk_vm.specs.Rooms.{depth_below, slots_below};
 
 use crate::entry::Entry;
+use crate::parts::{index_of, place_behind};
 use crate::start::{Reading, start, start_with};
 use sk_base::{Cell, Trap};
-use sk_isa::{At, Code, Data, Object};
+use sk_isa::{Code, Object};
+use sk_kernel::{At, Data, RunTrap};
 use std::alloc::{AllocError, Global};
 use std::marker::Model;
 
@@ -18,6 +22,7 @@ use std::marker::Model;
 #[derive(Debug, Drop)]
 pub struct Frame {
     function: u32,
+    index: Option<u8>,
     elements: u32,
     pairs: bool,
     stack: Vec<Cell>,
@@ -26,13 +31,14 @@ pub struct Frame {
 
 impl Model for Frame {
     ghost use Rattle.std.specs.Prelude.{vec_len};
-    ghost use Rattle.sk_vm.specs.Frames.{Framed};
+    ghost use Rattle.sk_vm.specs.Frames.{Framed, reading_by};
 
     ghost Value = { Framed };
 
     ghost view = { λ f. record {
       function = f.function;
-      reading = record { elements = f.elements; pairs = f.pairs };
+      index = f.index;
+      reading = reading_by f.elements f.pairs;
       stack = vec_len f.stack;
       slots = vec_len f.slots;
     } };
@@ -43,7 +49,7 @@ impl Frame {
     ///
     /// It takes as much room as the functions up to this one have together.
     pub fn new(alloc: Global, object: &Object, function: u32) -> Result<Frame, AllocError>
-        requires sound { IsSound object.now }
+        requires sound { HasSoundFunctions object.now }
         requires scalars { TakesScalars object.now }
         requires there { function < length object.now.functions }
         ensures made { IfOk result (IsUnread function) }
@@ -52,6 +58,7 @@ impl Frame {
         let room = room_below(object.functions.as_slice(), function as usize + 1);
         Ok(Frame {
             function,
+            index: index_of(object, function),
             elements: 0,
             pairs: false,
             stack: vec![in alloc; 0; room.stack]?,
@@ -60,9 +67,10 @@ impl Frame {
     }
 
     /// Sets how parameters are read: the first `n` from operands 0 to n - 1, each at the place, and the others as uniform
-    /// arguments. With `pairs` operand 1 is read at the pair.
+    /// arguments. With `pairs` operand 1 is read at the pair, and an index is the place and the pair.
     pub fn elements(&mut self, n: u32, pairs: bool)
-        ensures { self.new ≡ record self.old { reading = record { elements = n; pairs = pairs } } }
+        requires { MayRead self.old.index n pairs }
+        ensures { self.new ≡ record self.old { reading = reading_by n pairs } }
     {
         self.elements = n;
         self.pairs = pairs;
@@ -70,8 +78,6 @@ impl Frame {
 
     /// The function's value for the data at a place, or its first trap. It takes no memory.
     pub fn run<D: Data>(&mut self, object: &Object, source: &D, at: At) -> Result<Cell, Trap>
-        requires sound { IsSound object.now }
-        requires scalars { TakesScalars object.now }
         requires room { HasRoom object.now self.old }
         requires suits { Suits (function_meaning object.now self.old.function self.old.reading) (D.means source.now) at.place at.pair }
         ensures value { (cells : ℕ → ℕ → ℤ)
@@ -98,10 +104,38 @@ impl Frame {
         )
     }
 
+    /// The function's values at as many places one behind another as `out` has cells, into `out`; or the least of these
+    /// places that traps, with its trap. It takes no memory.
+    pub fn run_each<D: Data>(
+        &mut self,
+        object: &Object,
+        source: &D,
+        at: At,
+        out: &mut [Cell],
+    ) -> Result<(), RunTrap>
+        requires room { HasRoom object.now self.old }
+        requires suits { SuitsRun (function_meaning object.now self.old.function self.old.reading) (D.means source.now) at.place at.pair (length out.old) }
+        requires places { at.place + length out.old < 2 ^ 32 }
+        requires pairs { at.pair + length out.old < 2 ^ 32 }
+        ensures values { (cells : ℕ → ℕ → ℤ)
+            → AgreeRun (function_meaning object.now self.old.function self.old.reading) (D.means source.now) at.place at.pair (length out.old) cells
+            → AreValues (run_value (function_meaning object.now self.old.function self.old.reading) (given_by (D.means source.now) cells) at.place at.pair) out.new result }
+        ensures range { IfOk result (λ done. All (InRange (function_meaning object.now self.old.function self.old.reading).ty) out.new) }
+        ensures count { length out.new ≡ length out.old }
+        ensures same { self.new ≡ self.old }
+    {
+        for k in 0..out.len() {
+            let offset = k as u32;
+            match self.run(object, source, place_behind(at, self.pairs, offset)) {
+                Ok(value) => out[k] = value,
+                Err(trap) => return Err(RunTrap { trap, offset }),
+            }
+        }
+        Ok(())
+    }
+
     /// The function's value for two numbers, or its first trap. It takes no memory.
     pub fn run_with(&mut self, object: &Object, a: Cell, b: Cell) -> Result<Cell, Trap>
-        requires sound { IsSound object.now }
-        requires scalars { TakesScalars object.now }
         requires room { HasRoom object.now self.old }
         requires suits { SuitParams (signature_at object.now self.old.function).params (Value a ∷ Value b ∷ []) }
         ensures value { result ≡ invoked object.now self.old.function (Value a ∷ Value b ∷ []) }

@@ -1,6 +1,10 @@
-ghost use Rattle.std.specs.Prelude.{◌≡◌, ◌<◌, ◌+◌, ◌^◌, length, slice_get};
+ghost use Rattle.std.specs.Prelude.{◌≡◌, ◌<◌, ◌+◌, ◌^◌, if◌then◌else◌, length, slice_get};
+ghost use Rattle.sk_isa.specs.Objects.{signature_at};
+ghost use Rattle.sk_tree.specs.Parameters.{index_dimension};
 
 use sk_isa::{Instr, Object, Plan};
+use sk_kernel::At;
+use sk_tree::ParamKind;
 
 /// The instruction at an address.
 #[inline]
@@ -18,4 +22,37 @@ pub fn plan_at(object: &Object, instance: u32) -> &Plan
     ensures { slice_get object.now.instances instance ≡ Some result.now }
 {
     &object.instances.as_slice()[instance as usize]
+}
+
+/// The dimension of a function's index parameter, if it has one.
+pub fn index_of(object: &Object, function: u32) -> Option<u8>
+    requires { function < length object.now.signatures }
+    ensures { result ≡ index_dimension (signature_at object.now function).params }
+{
+    let signature = &object.signatures.as_slice()[function as usize];
+    match signature.params.as_slice().first() {
+        Some(ParamKind::Index(dimension)) => Some(*dimension),
+        _ => None,
+    }
+}
+
+/// The place that is so many behind another; over pairs the place stays, and the pair goes on.
+#[inline]
+pub fn place_behind(at: At, pairs: bool, behind: u32) -> At
+    requires place { at.place + behind < 2 ^ 32 }
+    requires pair { at.pair + behind < 2 ^ 32 }
+    ensures place { result.place ≡ if pairs then at.place else at.place + behind }
+    ensures pair { result.pair ≡ if pairs then at.pair + behind else at.pair }
+{
+    if pairs {
+        At {
+            pair: at.pair + behind,
+            ..at
+        }
+    } else {
+        At {
+            place: at.place + behind,
+            ..at
+        }
+    }
 }

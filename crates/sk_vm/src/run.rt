@@ -1,9 +1,11 @@
 ghost use Rattle.std.specs.Prelude.{◌≡◌, ℕ, ℤ, ◌<◌, ◌≤◌, ◌+◌, ◌-◌, ◌^◌, suc, pos, List, ◌∷◌, ◌++◌, length, take, drop, map, reverse, replicate};
-ghost use Rattle.sk_isa.specs.Coded.{function_of, returning};
-ghost use Rattle.sk_isa.specs.Instances.{signature_at};
+ghost use Rattle.sk_isa.specs.Coded.{function_of};
+ghost use Rattle.sk_isa.specs.Configurations.{returning};
+ghost use Rattle.sk_isa.specs.Objects.{signature_at};
 ghost use Rattle.sk_isa.specs.Soundness.{SuitParams};
 ghost use Rattle.sk_meaning.specs.Evaluation.{Value};
-ghost use Rattle.sk_vm.specs.Rooms.{depth_below, slots_below, given_to, Begins};
+ghost use Rattle.sk_vm.specs.Calls.{HasSpace, MayCall};
+ghost use Rattle.sk_vm.specs.Rooms.{given_to, Begins};
 ghost use Rattle.sk_vm.specs.Points.{values_in, point_at, led_to};
 
 use crate::entry::Entry;
@@ -24,8 +26,7 @@ pub fn run_code(
     turns: u32,
 ) -> Result<(Cell, u32), Trap>
     requires begins { Begins entry.now.object entry.now.function slots.old }
-    requires depth { depth_below entry.now.object.functions (suc entry.now.function) ≤ length stack.old }
-    requires room { slots_below entry.now.object.functions entry.now.function ≤ length rest.old }
+    requires space { HasSpace entry.now entry.now.function stack.old rest.old }
     ensures { result ≡ function_of entry.now.object entry.now.function (map Value (given_to entry.now.object entry.now.function slots.old)) turns }
 {
     let instrs = entry.instrs();
@@ -56,12 +57,7 @@ fn called(
     rest: &mut [Cell],
 ) -> Result<Stand, Trap>
     requires address { stand.at + 1 < 2 ^ 64 }
-    requires inside { stand.top ≤ length stack.old }
-    requires takes { length (signature_at callee.now.object callee.now.function).params ≤ stand.top }
-    requires suited { SuitParams (signature_at callee.now.object callee.now.function).params (map Value (reverse (take (length (signature_at callee.now.object callee.now.function).params) (values_in stack.old stand.top)))) }
-    requires value { stand.top < length stack.old + length (signature_at callee.now.object callee.now.function).params }
-    requires depth { depth_below callee.now.object.functions (suc callee.now.function) + stand.top ≤ length stack.old + length (signature_at callee.now.object callee.now.function).params }
-    requires room { slots_below callee.now.object.functions (suc callee.now.function) ≤ length rest.old }
+    requires ready { MayCall callee.now stand stack.old rest.old }
     ensures { let takes = length (signature_at callee.now.object callee.now.function).params in
         let values = values_in stack.old stand.top in
         (slots : List ℤ) → led_to result stack.new slots

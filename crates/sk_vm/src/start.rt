@@ -1,16 +1,18 @@
 ghost use Rattle.std.specs.Prelude.{◌≡◌, ℕ, ℤ, ◌<◌, ◌≤◌, ◌+◌, ◌-◌, ◌^◌, suc, pos, Some, IsSome, IfOk, List, [], ◌∷◌, length, take, drop, map, replicate};
 ghost use Rattle.sk_base.specs.Arithmetic.{InRange};
-ghost use Rattle.sk_isa.specs.Instances.{function_meaning, invoked, signature_at};
-ghost use Rattle.sk_isa.specs.Kernels.{Suits, Agree, given_by};
+ghost use Rattle.sk_kernel.specs.Instances.{function_meaning};
+ghost use Rattle.sk_isa.specs.Objects.{invoked, signature_at};
+ghost use Rattle.sk_kernel.specs.Kernels.{Suits, Agree, given_by};
 ghost use Rattle.sk_isa.specs.Soundness.{SuitParams};
 ghost use Rattle.sk_meaning.specs.Evaluation.{Value};
 ghost use Rattle.sk_vm.specs.Arguments.{argument_at, Passes, CanPass};
-ghost use Rattle.sk_vm.specs.Rooms.{depth_below, slots_below};
+ghost use Rattle.sk_vm.specs.Frames.{reading_by};
+ghost use Rattle.sk_vm.specs.Calls.{HasSpace};
 
 use crate::entry::Entry;
 use crate::run::{clear, enter, run_code};
 use sk_base::{Cell, Trap};
-use sk_isa::{At, Data};
+use sk_kernel::{At, Data};
 
 /// How a function reads its parameters: so many are elements, and the second of two is read at the pair.
 #[derive(Clone, Copy)]
@@ -31,12 +33,11 @@ pub fn start<D: Data>(
     stack: &mut [Cell],
     slots: &mut [Cell],
 ) -> Result<Cell, Trap>
-    requires depth { depth_below entry.now.object.functions (suc entry.now.function) ≤ length stack.old }
-    requires room { slots_below entry.now.object.functions (suc entry.now.function) ≤ length slots.old }
-    requires suits { Suits (function_meaning entry.now.object entry.now.function (record { elements = reading.elements; pairs = reading.pairs })) (D.means source.now) at.place at.pair }
+    requires space { HasSpace entry.now (suc entry.now.function) stack.old slots.old }
+    requires suits { Suits (function_meaning entry.now.object entry.now.function (reading_by reading.elements reading.pairs)) (D.means source.now) at.place at.pair }
     ensures value { (cells : ℕ → ℕ → ℤ)
-        → Agree (function_meaning entry.now.object entry.now.function (record { elements = reading.elements; pairs = reading.pairs })) (D.means source.now) at.place at.pair cells
-        → result ≡ (function_meaning entry.now.object entry.now.function (record { elements = reading.elements; pairs = reading.pairs })).value (given_by (D.means source.now) cells) at.place at.pair }
+        → Agree (function_meaning entry.now.object entry.now.function (reading_by reading.elements reading.pairs)) (D.means source.now) at.place at.pair cells
+        → result ≡ (function_meaning entry.now.object entry.now.function (reading_by reading.elements reading.pairs)).value (given_by (D.means source.now) cells) at.place at.pair }
     ensures range { IfOk result (InRange (signature_at entry.now.object entry.now.function).ret) }
 {
     let (own, rest) = slots.split_at_mut(entry.slot_count());
@@ -55,8 +56,7 @@ pub fn start_with(
     stack: &mut [Cell],
     slots: &mut [Cell],
 ) -> Result<Cell, Trap>
-    requires depth { depth_below entry.now.object.functions (suc entry.now.function) ≤ length stack.old }
-    requires room { slots_below entry.now.object.functions (suc entry.now.function) ≤ length slots.old }
+    requires space { HasSpace entry.now (suc entry.now.function) stack.old slots.old }
     requires suits { SuitParams (signature_at entry.now.object entry.now.function).params (Value a ∷ Value b ∷ []) }
     ensures value { result ≡ invoked entry.now.object entry.now.function (Value a ∷ Value b ∷ []) }
     ensures range { IfOk result (InRange (signature_at entry.now.object entry.now.function).ret) }

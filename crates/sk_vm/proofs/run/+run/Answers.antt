@@ -1,13 +1,15 @@
 use Rattle.std.proofs.Common.{rules, ◌≡◌, ℕ, suc, ℤ, ◌<◌, ◌≤◌, ◌+◌, ◌-◌, ◌*◌, List, ◌++◌, length, take, drop, map, reverse, Some, Ok, Result, slice_set, sym, ap, subst, ◌∙◌, arith, FitsSigned, w64, length-take-le}
 use Rattle.sk_meaning.specs.Evaluation.{Value}
-use Rattle.sk_isa.specs.Instances.{signature_at}
+use Rattle.sk_isa.specs.Objects.{signature_at}
 use Rattle.sk_isa.specs.Soundness.{SuitParams}
+use Rattle.sk_vm.specs.Calls.{MayCall}
 use Rattle.sk_vm.specs.Entries.{Entered}
 use Rattle.sk_vm.specs.Rooms.{Begins, depth_below, given_to, slots_below}
 use Rattle.sk_vm.specs.Points.{values_in, point_at}
 use Rattle.std.proofs.lemmas.Int.{to_z-of_z}
 use Rattle.sk_base.specs.declared.number.Trap.{Trap}
-use Rattle.sk_isa.specs.Coded.{Next, next_of, function_of, returning, Goes as Going}
+use Rattle.sk_isa.specs.Coded.{Next, next_of, function_of}
+use Rattle.sk_isa.specs.Configurations.{returning, Goes as Going}
 use Rattle.sk_vm.proofs.Calls.{params_fit, passed, call_begins, call_returns}
 use Rattle.sk_vm.proofs.Middle.{CallReady, within, inside, needs, call_ready, call_leads}
 use Rattle.sk_vm.proofs.Running.{routine_at, goes_on, ends_with}
@@ -27,10 +29,10 @@ pub run_code-instr_at-requires : goal.run_code-instr_at-requires
 run_code-instr_at-requires t c = within _ _ _ _ _ _ _ _ c.loop-next.invariant
 
 pub run_code-step-requires-clause-inside : goal.run_code-step-requires-clause-inside
-run_code-step-requires-clause-inside t c = inside _ _ _ _ _ _ c.loop-next.stack _ c.loop-next.invariant (deep c.requires.depth c.loop-next.auto.stack)
+run_code-step-requires-clause-inside t c = inside _ _ _ _ _ _ c.loop-next.stack _ c.loop-next.invariant (deep c.requires.space.depth c.loop-next.auto.stack)
 
 pub run_code-step-requires-clause-needs : goal.run_code-step-requires-clause-needs
-run_code-step-requires-clause-needs t c = needs _ _ _ _ _ _ c.loop-next.stack _ c.loop-next.invariant _ c.instrs-instrs.ensures.entered.scalars c.instr_at.ensures.found (deep c.requires.depth c.loop-next.auto.stack)
+run_code-step-requires-clause-needs t c = needs _ _ _ _ _ _ c.loop-next.stack _ c.loop-next.invariant _ c.instrs-instrs.ensures.entered.scalars c.instr_at.ensures.found (deep c.requires.space.depth c.loop-next.auto.stack)
 
 pub run_code-loop-next-smaller-in-Goes : goal.run_code-loop-next-smaller-in-Goes
 run_code-loop-next-smaller-in-Goes t c =
@@ -55,10 +57,10 @@ run_code-returns-in-Traps t c =
     (c.in-Traps.ensures.leads (routine_at c.args.entry.now.object c.args.entry.now.function c.loop-next.invariant.code c.args.slots.now)))
 
 -- a step calls a function
-ready : (t : ℕ) (c : run_code-In-Calls t) → CallReady _ _ _ _ _ _ _ _ c.loop-next.invariant c.in-Calls.callee (length c.loop-next.rest)
+ready : (t : ℕ) (c : run_code-In-Calls t) → CallReady _ _ _ _ _ _ _ _ c.loop-next.invariant c.in-Calls.callee c.loop-next.rest
 ready t c =
-    call_ready _ _ _ _ _ _ _ _ c.loop-next.invariant c.in-Calls.callee (length c.loop-next.rest) c.instrs-instrs.ensures.entered.there (c.instr_at.ensures.found ∙ ap Some c.in-Calls.ensures.leads)
-    (deep c.requires.depth c.loop-next.auto.stack) (deep c.requires.room c.loop-next.auto.rest)
+    call_ready _ _ _ _ _ _ _ _ c.loop-next.invariant c.in-Calls.callee c.loop-next.rest c.instrs-instrs.ensures.entered.there (c.instr_at.ensures.found ∙ ap Some c.in-Calls.ensures.leads)
+    (deep c.requires.space.depth c.loop-next.auto.stack) (deep c.requires.space.slots c.loop-next.auto.rest)
 
 pub run_code-of-requires : goal.run_code-of-requires
 run_code-of-requires t c = (ready t (goal.at.run_code-of-requires t c).In-Calls).there
@@ -66,41 +68,14 @@ run_code-of-requires t c = (ready t (goal.at.run_code-of-requires t c).In-Calls)
 pub run_code-called-requires : goal.run_code-called-requires
 run_code-called-requires t c =
     let ready = ready t (goal.at.run_code-called-requires t c).In-Calls in
-    let high = inside _ _ _ _ _ _ _ _ c.loop-next.invariant (deep c.requires.depth c.loop-next.auto.stack) in
-    let same : length c.step.new.stack ≡ length c.loop-next.stack = ap length c.in-Calls.ensures.kept.0 in
     let before = ready.before in
-    let value = ready.value in
-    let depth = ready.depth in
     let falls : 2 * c.in-Calls.callee + 1 < t = omega (arith, c.decreases) in
-    let suited = subst (λ (stack : List ℤ). SuitParams (signature_at c.args.entry.now.object c.in-Calls.callee).params
-    (map Value (reverse (take (length (signature_at c.args.entry.now.object c.in-Calls.callee).params) (values_in stack c.loop-next.stand.top))))) (sym c.in-Calls.ensures.kept.0) ready.suited in
-    let high : c.loop-next.stand.top ≤ length c.step.new.stack = omega arith in
-    let under : c.loop-next.stand.top < length c.step.new.stack + length (signature_at c.args.entry.now.object c.in-Calls.callee).params = omega arith in
-    let deep : depth_below c.args.entry.now.object.functions (suc c.in-Calls.callee) + c.loop-next.stand.top
-    ≤ length c.step.new.stack + length (signature_at c.args.entry.now.object c.in-Calls.callee).params = omega arith in
-    let top = c.loop-next.stand.top in
+    let may : MayCall (record { object = c.args.entry.now.object; function = c.in-Calls.callee }) c.loop-next.stand c.step.new.stack c.loop-next.rest =
+    subst (λ (stack : List ℤ). MayCall (record { object = c.args.entry.now.object; function = c.in-Calls.callee }) c.loop-next.stand stack c.loop-next.rest)
+    (sym c.in-Calls.ensures.kept.0) ready.may in
     let is : record { object = c.args.entry.now.object; function = c.in-Calls.callee } ≡ c.of.result = sym c.of.ensures in (
       subst (λ (e : Entered). 2 * e.function + 1 < t) is falls,
-      (
-        c.instr_at.ensures.address,
-        (
-          high,
-          (
-            subst (λ (e : Entered). length (signature_at e.object e.function).params ≤ top) is ready.takes,
-            (
-              subst (λ (e : Entered). SuitParams (signature_at e.object e.function).params
-                  (map Value (reverse (take (length (signature_at e.object e.function).params) (values_in c.step.new.stack top))))) is suited,
-              (
-                subst (λ (e : Entered). top < length c.step.new.stack + length (signature_at e.object e.function).params) is under,
-                (
-                  subst (λ (e : Entered). depth_below e.object.functions (suc e.function) + top ≤ length c.step.new.stack + length (signature_at e.object e.function).params) is deep,
-                  subst (λ (e : Entered). slots_below e.object.functions (suc e.function) ≤ length c.loop-next.rest) is ready.room,
-                ),
-              ),
-            ),
-          ),
-        ),
-      ),
+      (c.instr_at.ensures.address, subst (λ (e : Entered). MayCall e c.loop-next.stand c.step.new.stack c.loop-next.rest) is may),
     )
 
 pub called-enter-requires : goal.called-enter-requires
@@ -117,22 +92,22 @@ begins : (t : ℕ) (c : called-After-enter t)
     × (given_to c.args.callee.now.object c.args.callee.now.function c.enter.new.slots ≡ passed c.args.callee.now.object c.args.callee.now.function c.args.stack.now c.args.stand.top)
 begins t c =
     let takes = c.param_count-takes.ensures in
-    let enough = c.requires.takes in
+    let enough = c.requires.ready.takes in
     call_begins c.args.callee.now.object c.slot_count.ensures.entered.sound c.args.callee.now.function c.slot_count.ensures.entered.there c.args.stack.now c.split_at_mut-free.result.1.now c.enter.new.slots c.args.stand.top
-    c.param_count-takes.result (length c.split_at_mut-slots.result.0.now) takes (omega arith) c.requires.inside c.split_at_mut-free.ensures.back
-    (c.split_at_mut-slots.ensures.front_len ∙ c.slot_count.ensures.count) c.enter.auto.slots c.enter.ensures c.requires.suited
+    c.param_count-takes.result (length c.split_at_mut-slots.result.0.now) takes (omega arith) c.requires.ready.inside c.split_at_mut-free.ensures.back
+    (c.split_at_mut-slots.ensures.front_len ∙ c.slot_count.ensures.count) c.enter.auto.slots c.enter.ensures c.requires.ready.suited
 
 pub called-run_code-requires : goal.called-run_code-requires
 called-run_code-requires t c =
     let takes = c.param_count-takes.ensures in
-    let enough = c.requires.takes in
+    let enough = c.requires.ready.takes in
     let falls : 2 * c.args.callee.now.function < t = omega (arith, c.decreases) in
     let free = c.split_at_mut-free.ensures.back_len in
     let below = c.split_at_mut-slots.ensures.back_len in
     let count = c.slot_count.ensures.count in
-    let depth = c.requires.depth in
-    let room = c.requires.room in
-    (falls, ((begins t (goal.at.called-run_code-requires t c).After-enter).0, (omega arith, omega arith)))
+    let depth = c.requires.ready.depth in
+    let room = c.requires.ready.slots in
+    (falls, ((begins t (goal.at.called-run_code-requires t c).After-enter).0, record { depth = omega arith; slots = omega arith }))
 
 -- the value of the function that is called
 gives : (t : ℕ) (c : called-After-enter t) (value : Result (ℤ × ℕ) Trap)
@@ -143,11 +118,11 @@ gives t c value is = ap (λ (xs : List ℤ). function_of c.args.callee.now.objec
 pub called-returns-in-Ok : goal.called-returns-in-Ok
 called-returns-in-Ok t c slots =
     let takes = c.param_count-takes.ensures in
-    let enough = c.requires.takes in
+    let enough = c.requires.ready.takes in
     let fits : FitsSigned w64 c.in-Ok.value = search rules in
     let free = c.split_at_mut-free.ensures.back_len in
     let kept = c.run_code.auto.stack in
-    let value = c.requires.value in
+    let value = c.requires.ready.value in
     ap (λ (x : ℤ). Going (point_at (record { at = c.args.stand.at + 1; top = c.args.stand.top - c.param_count-takes.result + 1; turns = c.in-Ok.turns })
     (c.split_at_mut-free.result.0.now ++ slice_set c.run_code.new.stack 0 x) slots)) (to_z-of_z w64 c.in-Ok.value fits)
     ∙ call_returns c.args.callee.now.object c.args.callee.now.function c.args.stand c.args.stack.now c.split_at_mut-free.result.0.now c.split_at_mut-free.result.1.now c.run_code.new.stack slots

@@ -1,11 +1,12 @@
 use Rattle.std.proofs.Common.{rules, ◌≡◌, ◌∙◌, ◌-◌, ◌≤◌, length, take, drop, replicate, pos, ℕ, ℤ, Ok, ap, sym, subst, arith, FitsSigned, w64}
 use Rattle.std.proofs.lemmas.Int.{to_z-of_z}
 use Rattle.sk_base.specs.Arithmetic.{InRange}
-use Rattle.sk_isa.specs.Instances.{signature_at}
+use Rattle.sk_isa.specs.Objects.{signature_at}
 use Rattle.sk_meaning.specs.Evaluation.{value_only}
 use Rattle.sk_vm.specs.Arguments.{CanPass, Passes}
 use Rattle.sk_vm.proofs.Calls.{params_fit}
 use Rattle.sk_vm.proofs.Given.{scalars_only, value-in_range, passable, given_suit, begins_given, value_given}
+use Rattle.sk_vm.specs.Frames.{reading_by}
 use Rattle.sk_vm.specs.Rooms.{given_to}
 use Rattle.sk_vm.proofs.start.start.Given.{Over}
 use Rattle.sk_vm.proofs.start.start.Goals as goal
@@ -29,7 +30,7 @@ pub read-requires-clause-there : goal.read-requires-clause-there
 read-requires-clause-there g c =
     subst (CanPass (g.D.Data.means c.args.source.now) c.args.reading.elements c.args.reading.pairs c.args.at.place c.args.at.pair) (sym c.param_count.ensures)
     (passable c.args.entry.now.object c.slot_count.ensures.entered.sound c.slot_count.ensures.entered.scalars c.args.entry.now.function c.slot_count.ensures.entered.there
-    (record { elements = c.args.reading.elements; pairs = c.args.reading.pairs }) (g.D.Data.means c.args.source.now) c.args.at.place c.args.at.pair c.requires.suits)
+    (reading_by c.args.reading.elements c.args.reading.pairs) (g.D.Data.means c.args.source.now) c.args.at.place c.args.at.pair c.requires.suits)
 
 -- the slots begin with the arguments
 fit : (g : Over) (c : After-read g) → length (signature_at c.args.entry.now.object c.args.entry.now.function).params ≤ length c.read.new.slots
@@ -50,7 +51,7 @@ pub run_code-requires-clause-begins : goal.run_code-requires-clause-begins
 run_code-requires-clause-begins g c =
     let at = (goal.at.run_code-requires-clause-begins g c).After-read in
     begins_given c.args.entry.now.object c.slot_count.ensures.entered.sound c.slot_count.ensures.entered.scalars c.args.entry.now.function c.slot_count.ensures.entered.there
-    (record { elements = c.args.reading.elements; pairs = c.args.reading.pairs }) (g.D.Data.means c.args.source.now) c.args.at.place c.args.at.pair c.requires.suits
+    (reading_by c.args.reading.elements c.args.reading.pairs) (g.D.Data.means c.args.source.now) c.args.at.place c.args.at.pair c.requires.suits
     c.read.new.slots (fit g at) (passes g at) (c.read.auto.slots ∙ c.split_at_mut-own.ensures.front_len ∙ c.slot_count.ensures.count)
     (subst (λ (n : ℕ). drop n c.read.new.slots ≡ replicate (length c.read.new.slots - n) (pos 0)) c.param_count.ensures
     (c.read.ensures.others ∙ ap (λ (n : ℕ). replicate (n - c.param_count.result) (pos 0)) (sym c.read.auto.slots)))
@@ -62,7 +63,7 @@ returns-in-Ok-clause-value g c cells agree =
     ap (λ (x : ℤ). Ok x) (to_z-of_z w64 c.in-Ok.value fits)
     ∙ ap value_only (sym c.in-Ok.is ∙ c.run_code.ensures)
     ∙ value_given c.args.entry.now.object c.slot_count.ensures.entered.sound c.slot_count.ensures.entered.scalars c.args.entry.now.function c.slot_count.ensures.entered.there
-    (record { elements = c.args.reading.elements; pairs = c.args.reading.pairs }) (g.D.Data.means c.args.source.now) c.args.at.place c.args.at.pair c.requires.suits
+    (reading_by c.args.reading.elements c.args.reading.pairs) (g.D.Data.means c.args.source.now) c.args.at.place c.args.at.pair c.requires.suits
     c.read.new.slots (fit g at) (passes g at) cells agree
 
 pub returns-in-Ok-clause-range : goal.returns-in-Ok-clause-range
@@ -70,7 +71,7 @@ returns-in-Ok-clause-range g c =
     let at = (goal.at.returns-in-Ok-clause-range g c).After-read in
     let fits : FitsSigned w64 c.in-Ok.value = search rules in
     let suits = given_suit c.args.entry.now.object c.slot_count.ensures.entered.sound c.slot_count.ensures.entered.scalars c.args.entry.now.function c.slot_count.ensures.entered.there
-    (record { elements = c.args.reading.elements; pairs = c.args.reading.pairs }) (g.D.Data.means c.args.source.now) c.args.at.place c.args.at.pair c.requires.suits
+    (reading_by c.args.reading.elements c.args.reading.pairs) (g.D.Data.means c.args.source.now) c.args.at.place c.args.at.pair c.requires.suits
     c.read.new.slots (fit g at) (passes g at) in
     subst (λ (x : ℤ). InRange (signature_at c.args.entry.now.object c.args.entry.now.function).ret x) (sym (to_z-of_z w64 c.in-Ok.value fits))
     (value-in_range c.args.entry.now.object c.slot_count.ensures.entered.sound c.args.entry.now.function c.slot_count.ensures.entered.there _ suits c.in-Ok.value c.in-Ok.field-0-1 (sym c.run_code.ensures ∙ c.in-Ok.is))
@@ -80,5 +81,5 @@ returns-in-Err-clause-value g c cells agree =
     let at = (goal.at.returns-in-Err-clause-value g c).After-read in
     ap value_only (sym c.in-Err.is ∙ c.run_code.ensures)
     ∙ value_given c.args.entry.now.object c.slot_count.ensures.entered.sound c.slot_count.ensures.entered.scalars c.args.entry.now.function c.slot_count.ensures.entered.there
-    (record { elements = c.args.reading.elements; pairs = c.args.reading.pairs }) (g.D.Data.means c.args.source.now) c.args.at.place c.args.at.pair c.requires.suits
+    (reading_by c.args.reading.elements c.args.reading.pairs) (g.D.Data.means c.args.source.now) c.args.at.place c.args.at.pair c.requires.suits
     c.read.new.slots (fit g at) (passes g at) cells agree

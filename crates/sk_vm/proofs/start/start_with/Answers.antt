@@ -2,7 +2,7 @@ use Rattle.std.proofs.Common.{rules, ◌≡◌, ◌∙◌, List, [], ◌∷◌, 
 use Rattle.std.proofs.lemmas.Int.{to_z-of_z}
 use Rattle.sk_base.specs.Arithmetic.{InRange}
 use Rattle.sk_isa.specs.Coded.{function_of}
-use Rattle.sk_isa.specs.Instances.{signature_at}
+use Rattle.sk_isa.specs.Objects.{signature_at}
 use Rattle.sk_isa_laws.proofs.TypedLists.{suited-length}
 use Rattle.sk_meaning.specs.Evaluation.{Value, turn_limit, value_only}
 use Rattle.sk_vm.proofs.Calls.{params_fit, begins-entered}

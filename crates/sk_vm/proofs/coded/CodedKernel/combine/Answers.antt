@@ -2,7 +2,9 @@ use Rattle.std.proofs.Common.{◌∷◌, [], ℤ, sym, subst, w64, IsSomeAnd, to
 use Rattle.std.proofs.lemmas.Int.{to_z-of_z}
 use Rattle.std.specs.Prelude.{Option}
 use Rattle.sk_base.specs.Arithmetic.{InRange}
-use Rattle.sk_isa.specs.Instances.{operator_place, operator_type, signature_at}
+use Rattle.sk_tree.specs.Skeletons.{operator_place}
+use Rattle.sk_kernel.specs.Instances.{operator_type}
+use Rattle.sk_isa.specs.Objects.{signature_at}
 use Rattle.sk_isa.specs.Soundness.{SuitParams}
 use Rattle.sk_meaning.specs.Evaluation.{Value}
 use Rattle.sk_vm.specs.Frames.{Framed}

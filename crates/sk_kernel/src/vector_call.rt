@@ -1,4 +1,5 @@
-ghost use Rattle.sk_isa.specs.Vectors.{vector_source};
+ghost use Rattle.sk_kernel.specs.VectorLaws.{vector-holds-inside};
+ghost use Rattle.sk_kernel.specs.Vectors.{vector_source};
 
 use crate::kernel::Data;
 use sk_base::{Cell, Shape};
@@ -18,6 +19,11 @@ impl<'a> Data for VectorCall<'a> {
         self.cells[index as usize]
     }
 
+    fn column(&self, _operand: u32, from: u32, count: u32) -> &[Cell] {
+        let from = from as usize;
+        &self.cells[from..from + count as usize]
+    }
+
     fn shape(&self, _operand: u32) -> &Shape {
         self.shape
     }
@@ -29,4 +35,6 @@ impl<'a> Data for VectorCall<'a> {
     fn over(&self) -> &Shape {
         self.shape
     }
+
+    ghost holds_inside = { λ call. vector-holds-inside call.cells.now call.shape.now call.uniforms.now };
 }

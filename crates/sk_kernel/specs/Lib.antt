@@ -1,0 +1,4 @@
+pub mod Instances
+pub mod Kernels
+pub mod VectorLaws
+pub mod Vectors

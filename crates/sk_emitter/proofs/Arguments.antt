@@ -2,7 +2,8 @@
 use Rattle.std.proofs.Common.{◌≡◌, ℕ, zero, suc, ◌+◌, max, List, [], ◌∷◌, ◌++◌, length, drop, Option, Some, refl, sym, ap, ◌∙◌, arith, append_assoc, length-append, append-nil}
 use Rattle.std.specs.Prelude.{slice_get}
 use Rattle.sk_tree.specs.declared.tree.ParamKind.{ParamKind}
-use Rattle.sk_scheme.specs.Scheme.{Compiled, Around, then_code, arguments_code, places_code, applied_code, Known}
+use Rattle.sk_scheme.specs.Pieces.{then_code, arguments_code, places_code}
+use Rattle.sk_scheme.specs.Scheme.{Compiled, Around, applied_code, Known}
 use Rattle.sk_tree.specs.declared.tree.ParamKind.TheVariants.{Scalar, Index, Proxy, Region}
 use Rattle.sk_isa.specs.declared.code.Instr.{Instr}
 use Rattle.sk_isa.specs.declared.code.Instr.TheVariants as instr

@@ -26,7 +26,7 @@ kept_standing old new at keeps at_is =
     standing_as new at old.names.scope old.slots.items at_is (ap (λ (around : Around). around.scope) keeps.names) keeps.slots
 
 pub writes_only : (test : Compiled) (one : List Statement) (old inside middle new : Writer) (c1 : List Instr) (n ends d1 d2 depth : ℕ)
-    → c1 ≡ old.code.items ++ test.code old.names (length old.code.items) → d1 ≡ test.depth
+    → c1 ≡ old.code.items ++ test.code old.names (length old.code.items) → d1 ≡ test.depth old.names
     → n ≡ length c1 → inside.code.items ≡ c1 ++ Zero 0 ∷ [] → Keeps old inside
     → Writes (block_emitted (map emitting_of one)) inside middle d2
     → ends ≡ length middle.code.items → new.code.items ≡ slice_set middle.code.items n (Zero ends) → Keeps middle new
@@ -49,12 +49,12 @@ writes_only test one old inside middle new c1 n ends d1 d2 depth e1 f1 en e2 kee
       names = last.names ∙ writes.names ∙ keeps.names;
       slots = last.slots ∙ writes.slots ∙ ap (λ (e : Emitted). e.slots) same;
       ret = last.ret ∙ writes.ret ∙ keeps.ret;
-      depth_is = deepest ∙ ap (λ k. max k d2) f1 ∙ ap (λ k. max test.depth k) inner_depth;
+      depth_is = deepest ∙ ap (λ k. max k d2) f1 ∙ ap (λ k. max (test.depth old.names) k) inner_depth;
     }
 
 pub writes_choice : (test : Compiled) (one other : List Statement) (old inside middle inside' middle' new : Writer) (c1 : List Instr)
     (n m third ends d1 d2 d3 depth : ℕ)
-    → c1 ≡ old.code.items ++ test.code old.names (length old.code.items) → d1 ≡ test.depth
+    → c1 ≡ old.code.items ++ test.code old.names (length old.code.items) → d1 ≡ test.depth old.names
     → n ≡ length c1 → inside.code.items ≡ c1 ++ Zero 0 ∷ [] → Keeps old inside
     → Writes (block_emitted (map emitting_of one)) inside middle d2
     → m ≡ length middle.code.items → inside'.code.items ≡ middle.code.items ++ Zero 0 ∷ [] → Keeps middle inside'
@@ -96,13 +96,13 @@ writes_choice test one other old inside middle inside' middle' new c1 n m third 
       names = last.names ∙ writes'.names ∙ names';
       slots = last.slots ∙ writes'.slots ∙ ap (λ (e : Emitted). e.slots) same';
       ret = last.ret ∙ writes'.ret ∙ ret';
-      depth_is = deepest ∙ ap (λ k. max k (max d2 d3)) f1 ∙ ap (λ k. max test.depth (max k d3)) inner_depth ∙ ap (λ k. max test.depth (max inner.depth k)) else_depth;
+      depth_is = deepest ∙ ap (λ k. max k (max d2 d3)) f1 ∙ ap (λ k. max (test.depth old.names) (max k d3)) inner_depth ∙ ap (λ k. max (test.depth old.names) (max inner.depth k)) else_depth;
     }
 
 pub writes_turn : (test : Compiled) (step : Statement) (body : List Statement) (old inside middle middle' new : Writer) (c1 c2 c6 : List Instr)
     (start n ends outer d1 d2 d3 depth : ℕ)
     → start ≡ length old.code.items
-    → c1 ≡ old.code.items ++ test.code old.names (length old.code.items) → d1 ≡ test.depth
+    → c1 ≡ old.code.items ++ test.code old.names (length old.code.items) → d1 ≡ test.depth old.names
     → n ≡ length c1 → c2 ≡ c1 ++ Zero 0 ∷ [] → inside.code.items ≡ c2 ++ Turn ∷ [] → Keeps old inside
     → Writes (block_emitted (map emitting_of body)) inside middle d2
     → Writes (emitting_of step) middle middle' d3
@@ -152,7 +152,7 @@ writes_turn test step body old inside middle middle' new c1 c2 c6 start n ends o
       names = names ∙ ap P functions ∙ ap Q back;
       slots = slots ∙ writes'.slots ∙ ap (λ (e : Emitted). e.slots) same';
       ret = ret ∙ writes'.ret ∙ writes.ret ∙ keeps.ret;
-      depth_is = deepest ∙ ap (λ k. max k (max d2 d3)) f1 ∙ ap (λ k. max test.depth (max k d3)) inner_depth ∙ ap (λ k. max test.depth (max inner.depth k)) last_depth;
+      depth_is = deepest ∙ ap (λ k. max k (max d2 d3)) f1 ∙ ap (λ k. max (test.depth old.names) (max k d3)) inner_depth ∙ ap (λ k. max (test.depth old.names) (max inner.depth k)) last_depth;
     }
 
 pub writes_turns : (first step : Statement) (test : Compiled) (body : List Statement) (old middle middle' new : Writer) (outer d1 d2 depth : ℕ)

@@ -3,7 +3,8 @@ use Rattle.std.specs.Prelude.{ℕ, List, [], ◌∷◌, map, Option, Some, None}
 use Rattle.sk_meaning.specs.Evaluation.{kind_type}
 use Rattle.sk_tree.specs.declared.tree.ParamKind.{ParamKind}
 use Rattle.sk_tree.specs.declared.tree.ParamKind.TheVariants.{Scalar, Index, Proxy, Region}
-use Rattle.sk_scheme.specs.Scheme.{Slot, Known, known_of, Compiled, Around, Placed, wanted_code}
+use Rattle.sk_scheme.specs.Pieces.{Placed, wanted_code}
+use Rattle.sk_scheme.specs.Scheme.{Slot, Known, known_of, Compiled, Around}
 use Rattle.sk_isa.specs.declared.code.Instr.{Instr}
 use Rattle.sk_isa.specs.declared.code.Instr.TheVariants as instr
 use Rattle.sk_emitter.specs.declared.names.Place.{Place}

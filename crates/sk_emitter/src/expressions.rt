@@ -1,5 +1,6 @@
 ghost use Rattle.std.specs.Prelude.{◌≡◌, ◌+◌, ◌++◌, [], ◌∷◌, length, max, suc, map, Option, OnOk, IfOk};
 ghost use Rattle.std.specs.Option.{option_map};
+ghost use Rattle.sk_scheme.specs.Pieces as pieces;
 ghost use Rattle.sk_scheme.specs.Scheme as scheme;
 ghost use Rattle.sk_scheme.specs.Scheme.{compiled_of};
 ghost use Rattle.sk_meaning.specs.Expressions as tree;
@@ -24,7 +25,7 @@ pub(crate) fn expression(
     expr: &Expr,
 ) -> Result<Given, AllocError>
     ensures code { OnOk result (code.new.items ≡ code.old.items ++ (compiled_of expr.now).code names.now (length code.old.items)) }
-    ensures given { IfOk result (λ given. given ≡ record { ty = (compiled_of expr.now).ty names.now; depth = (compiled_of expr.now).depth }) }
+    ensures given { IfOk result (λ given. given ≡ record { ty = (compiled_of expr.now).ty names.now; depth = (compiled_of expr.now).depth names.now }) }
 {
     match expr {
         Expr::Number(ty, number) => {
@@ -87,8 +88,8 @@ pub(crate) fn wanted(
     ty: Ty,
     expr: &Expr,
 ) -> Result<usize, AllocError>
-    ensures code { OnOk result (code.new.items ≡ code.old.items ++ scheme.wanted_code ty (compiled_of expr.now) names.now (length code.old.items)) }
-    ensures depth { IfOk result (λ depth. depth ≡ (compiled_of expr.now).depth) }
+    ensures code { OnOk result (code.new.items ≡ code.old.items ++ pieces.wanted_code ty (compiled_of expr.now) names.now (length code.old.items)) }
+    ensures depth { IfOk result (λ depth. depth ≡ (compiled_of expr.now).depth names.now) }
 {
     let given = expression(alloc, code, names, expr)?;
     narrow(code, ty, given.ty)?;
@@ -106,11 +107,11 @@ fn binary(
     right: &Expr,
 ) -> Result<Given, AllocError>
     ensures code { OnOk result (code.new.items ≡ code.old.items
-        ++ (scheme.then_code ((compiled_of left.now).code names.now (length code.old.items)) ((compiled_of right.now).code names.now) (length code.old.items)
+        ++ (pieces.then_code ((compiled_of left.now).code names.now (length code.old.items)) ((compiled_of right.now).code names.now) (length code.old.items)
         ++ Instr.Binary op (tree.operation_type op ((compiled_of left.now).ty names.now) ((compiled_of right.now).ty names.now)) ∷ [])) }
     ensures given { IfOk result (λ given. given ≡ record {
       ty = tree.result_type op ((compiled_of left.now).ty names.now) ((compiled_of right.now).ty names.now);
-      depth = max (compiled_of left.now).depth (suc (compiled_of right.now).depth);
+      depth = max ((compiled_of left.now).depth names.now) (suc ((compiled_of right.now).depth names.now));
     }) }
 {
     let one = expression(alloc, code, names, left)?;
@@ -134,8 +135,8 @@ fn both(
     left: &Expr,
     right: &Expr,
 ) -> Result<usize, AllocError>
-    ensures code { OnOk result (code.new.items ≡ code.old.items ++ scheme.both_code ((compiled_of left.now).code names.now) ((compiled_of right.now).code names.now) (length code.old.items)) }
-    ensures depth { IfOk result (λ depth. depth ≡ max (compiled_of left.now).depth (compiled_of right.now).depth) }
+    ensures code { OnOk result (code.new.items ≡ code.old.items ++ pieces.both_code ((compiled_of left.now).code names.now) ((compiled_of right.now).code names.now) (length code.old.items)) }
+    ensures depth { IfOk result (λ depth. depth ≡ max ((compiled_of left.now).depth names.now) ((compiled_of right.now).depth names.now)) }
 {
     let one = expression(alloc, code, names, left)?;
     let first = room(code)?;
@@ -158,8 +159,8 @@ fn either(
     left: &Expr,
     right: &Expr,
 ) -> Result<usize, AllocError>
-    ensures code { OnOk result (code.new.items ≡ code.old.items ++ scheme.either_code ((compiled_of left.now).code names.now) ((compiled_of right.now).code names.now) (length code.old.items)) }
-    ensures depth { IfOk result (λ depth. depth ≡ max (compiled_of left.now).depth (compiled_of right.now).depth) }
+    ensures code { OnOk result (code.new.items ≡ code.old.items ++ pieces.either_code ((compiled_of left.now).code names.now) ((compiled_of right.now).code names.now) (length code.old.items)) }
+    ensures depth { IfOk result (λ depth. depth ≡ max ((compiled_of left.now).depth names.now) ((compiled_of right.now).depth names.now)) }
 {
     let one = expression(alloc, code, names, left)?;
     let second = ahead(code.len(), 3)?;
@@ -186,10 +187,10 @@ fn choose(
     other: &Expr,
 ) -> Result<Given, AllocError>
     ensures code { OnOk result (code.new.items ≡ code.old.items
-        ++ scheme.choice_code ((compiled_of test.now).code names.now) ((compiled_of one.now).code names.now) ((compiled_of other.now).code names.now) (length code.old.items)) }
+        ++ pieces.choice_code ((compiled_of test.now).code names.now) ((compiled_of one.now).code names.now) ((compiled_of other.now).code names.now) (length code.old.items)) }
     ensures given { IfOk result (λ given. given ≡ record {
       ty = tree.wider ((compiled_of one.now).ty names.now) ((compiled_of other.now).ty names.now);
-      depth = max (compiled_of test.now).depth (max (compiled_of one.now).depth (compiled_of other.now).depth);
+      depth = max ((compiled_of test.now).depth names.now) (max ((compiled_of one.now).depth names.now) ((compiled_of other.now).depth names.now));
     }) }
 {
     let first = expression(alloc, code, names, test)?;
@@ -217,7 +218,7 @@ fn argument(
     part: &Expr,
 ) -> Result<usize, AllocError>
     ensures code { OnOk result (code.new.items ≡ code.old.items ++ argument_code kind (compiled_of part.now) names.now (length code.old.items)) }
-    ensures depth { IfOk result (λ depth. depth ≡ (compiled_of part.now).depth) }
+    ensures depth { IfOk result (λ depth. depth ≡ (compiled_of part.now).depth names.now) }
 {
     match kind {
         Some(kind) => wanted(alloc, code, names, kind_type(kind), part),
@@ -237,8 +238,8 @@ fn arguments(
     params: &[Param],
     parts: &[Expr],
 ) -> Result<usize, AllocError>
-    ensures code { OnOk result (code.new.items ≡ code.old.items ++ scheme.arguments_code (scheme.kinds_of params.now) (map compiled_of parts.now) names.now (length code.old.items)) }
-    ensures depth { IfOk result (λ depth. depth ≡ scheme.parts_depth (map compiled_of parts.now)) }
+    ensures code { OnOk result (code.new.items ≡ code.old.items ++ pieces.arguments_code (scheme.kinds_of params.now) (map compiled_of parts.now) names.now (length code.old.items)) }
+    ensures depth { IfOk result (λ depth. depth ≡ pieces.parts_depth (map compiled_of parts.now) names.now) }
 {
     let mut depth = 0;
     for (i, part) in parts.iter().enumerate() {
@@ -262,7 +263,7 @@ fn apply(
         ++ scheme.applied_code (option_map slot_of place) (option_map callee_of callee.entry) (map compiled_of parts.now) names.now (length code.old.items)) }
     ensures given { IfOk result (λ given. given ≡ record {
       ty = scheme.applied_type (option_map slot_of place) (option_map callee_of callee.entry);
-      depth = max 1 (scheme.parts_depth (map compiled_of parts.now));
+      depth = max 1 (pieces.parts_depth (map compiled_of parts.now) names.now);
     }) }
 {
     match place {

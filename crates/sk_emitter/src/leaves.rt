@@ -1,5 +1,6 @@
-ghost use Rattle.std.specs.Prelude.{◌≡◌, ◌++◌, slice_get, Option, OnOk, IfOk};
+ghost use Rattle.std.specs.Prelude.{◌≡◌, ◌++◌, slice_get, Option, Some, OnOk, IfOk};
 ghost use Rattle.std.specs.Option.{option_map};
+ghost use Rattle.sk_scheme.specs.Pieces as pieces;
 ghost use Rattle.sk_scheme.specs.Scheme as scheme;
 ghost use Rattle.sk_emitter.specs.Names.{slot_of, element_code};
 
@@ -21,7 +22,7 @@ pub(crate) struct Given {
 
 /// Reduces a value where an `int` is wanted and it is a `long`.
 pub(crate) fn narrow(code: &mut Vec<Instr>, wanted: Ty, given: Ty) -> Result<(), AllocError>
-    ensures { OnOk result (code.new.items ≡ code.old.items ++ scheme.narrowed wanted given) }
+    ensures { OnOk result (code.new.items ≡ code.old.items ++ pieces.narrowed wanted given) }
 {
     match wanted {
         Ty::Long => Ok(()),
@@ -32,22 +33,38 @@ pub(crate) fn narrow(code: &mut Vec<Instr>, wanted: Ty, given: Ty) -> Result<(),
     }
 }
 
-/// A scalar.
+/// Loads a scalar, which is one value more on the stack; a parameter of another kind is no value.
+fn load(code: &mut Vec<Instr>, place: Place) -> Result<usize, AllocError>
+    ensures code { OnOk result (code.new.items ≡ code.old.items ++ scheme.name_code (Some (slot_of place))) }
+    ensures depth { IfOk result (λ depth. depth ≡ scheme.name_depth (Some (slot_of place))) }
+{
+    match place.kind {
+        ParamKind::Scalar(_) => {
+            put(code, Instr::Load(place.number))?;
+            Ok(1)
+        }
+        ParamKind::Index(_) => Ok(0),
+        ParamKind::Proxy(_, _) => Ok(0),
+        ParamKind::Region(_, _) => Ok(0),
+    }
+}
+
+/// The value of a scalar. A name of anything else is no value, and leaves no code.
 pub(crate) fn name(code: &mut Vec<Instr>, place: Option<Place>) -> Result<Given, AllocError>
     ensures code { OnOk result (code.new.items ≡ code.old.items ++ scheme.name_code (option_map slot_of place)) }
-    ensures given { IfOk result (λ given. given ≡ record { ty = scheme.name_type (option_map slot_of place); depth = 1 }) }
+    ensures given { IfOk result (λ given. given ≡ record { ty = scheme.name_type (option_map slot_of place); depth = scheme.name_depth (option_map slot_of place) }) }
 {
     match place {
         Some(place) => {
-            put(code, Instr::Load(place.number))?;
+            let depth = load(code, place)?;
             Ok(Given {
                 ty: kind_type(place.kind),
-                depth: 1,
+                depth,
             })
         }
         None => Ok(Given {
             ty: Ty::Int,
-            depth: 1,
+            depth: 0,
         }),
     }
 }
@@ -72,7 +89,7 @@ pub(crate) fn field(
 
 /// The instruction of a prefix.
 pub(crate) fn prefix(op: Un, ty: Ty) -> Instr
-    ensures { result ≡ scheme.prefix_code op ty }
+    ensures { result ≡ pieces.prefix_code op ty }
 {
     match op {
         Un::Neg => Instr::Neg(ty),

@@ -68,8 +68,8 @@ fn main_signature(alloc: Global) -> Signature
 }
 
 /// The compiled form of a program whose functions alone are compiled: main's code is empty, no function is marked, and each
-/// plan offers to be run sequentially alone. It is taken of every program: where a name is not in scope, nothing is compiled.
-/// A name is found in constant time, so the cost is that of the program's length.
+/// plan offers to be run sequentially alone. It is taken of every program: where a name is not in scope, or is no
+/// value, nothing is compiled. A name is found in constant time, so the cost is that of the program's length.
 ///
 /// # Errors
 ///

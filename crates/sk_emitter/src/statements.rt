@@ -52,7 +52,7 @@ fn skip(
     expr: &Expr,
 ) -> Result<usize, AllocError>
     ensures code { OnOk result (code.new.items ≡ code.old.items) }
-    ensures depth { IfOk result (λ depth. depth ≡ (compiled_of expr.now).depth) }
+    ensures depth { IfOk result (λ depth. depth ≡ (compiled_of expr.now).depth names.now) }
 {
     let start = code.len();
     let given = expression(alloc, code, names, expr)?;

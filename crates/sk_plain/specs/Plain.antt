@@ -13,7 +13,8 @@ use Rattle.sk_tree.specs.declared.tree.Program.{Program}
 use Rattle.sk_tree.specs.declared.tree.Statement.{Statement, fold-Statement}
 use Rattle.sk_tree.specs.declared.tree.What.TheOpen.{What-F, Declare, Assign, If, For, Return}
 use Rattle.sk_scheme.specs.Plans.{functions_before_main, functions_object}
-use Rattle.sk_isa.specs.Soundness.{IsSoundPlan, is_scalar}
+use Rattle.sk_isa.specs.SoundObjects.{IsSoundPlan}
+use Rattle.sk_isa.specs.Soundness.{is_scalar}
 
 -- how many parameters each function has that may be called, the latest first
 abbrev pub Counts : Type 0

@@ -3,7 +3,8 @@ use Rattle.std.specs.Prelude.{◌≡◌, ℕ, List, take, Some, slice_get}
 use Rattle.sk_meaning.specs.Evaluation.{Argument, apply_of, callables_of}
 use Rattle.sk_tree.specs.declared.tree.Function.{Function}
 use Rattle.sk_tree.specs.declared.tree.Program.{Program}
-use Rattle.sk_isa.specs.Coded.{Ended, callees_below, outcome_of, routine_of, start_of}
+use Rattle.sk_isa.specs.Configurations.{Ended}
+use Rattle.sk_isa.specs.Coded.{callees_below, outcome_of, routine_of, start_of}
 use Rattle.sk_scheme.specs.Plans.{functions_before_main, functions_object}
 use Rattle.sk_scheme.specs.Scheme.{kinds_of}
 use Rattle.sk_isa.specs.Soundness.{SuitParams}

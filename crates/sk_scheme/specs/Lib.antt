@@ -1,3 +1,4 @@
+pub mod Pieces
 pub mod Plans
 pub mod Scheme
 pub mod SchemeLaws

@@ -1,14 +1,13 @@
 -- The code of user functions, by recursion on the tree.
-use Rattle.std.specs.Prelude.{ℕ, suc, ◌+◌, max, List, [], ◌∷◌, ◌++◌, length, map, pos, Option, Some, None}
+use Rattle.std.specs.Prelude.{ℕ, suc, ◌+◌, max, if◌then◌else◌, List, [], ◌∷◌, ◌++◌, length, map, Option, Some, None}
 use Rattle.sk_base.specs.declared.number.Ty.{Ty}
-use Rattle.sk_base.specs.declared.number.Ty.TheVariants.{Int, Long}
+use Rattle.sk_base.specs.declared.number.Ty.TheVariants.{Int}
 use Rattle.sk_names.specs.Bindings.{bound_to}
 use Rattle.sk_meaning.specs.Evaluation.{kind_type}
-use Rattle.sk_meaning.specs.Expressions.{wider, operation_type, result_type, prefix_type}
-use Rattle.sk_tree.specs.declared.tree.Un.{Un}
-use Rattle.sk_tree.specs.declared.tree.Un.TheVariants as prefix
+use Rattle.sk_scheme.specs.Pieces.{Placed, Piece, Leaves, wanted_code, places_code, arguments_code, parts_depth, piece_step}
+use Rattle.sk_tree.specs.Parameters.{is_scalar}
 use Rattle.sk_tree.specs.declared.tree.Expr.{Expr, fold-Expr}
-use Rattle.sk_tree.specs.declared.tree.Expr.TheOpen.{Expr-F, Number, Name, Field, Method, Unary, Cast, Binary, Both, Either, Choose, Apply}
+use Rattle.sk_tree.specs.declared.tree.Expr.TheOpen.{Expr-F}
 use Rattle.sk_tree.specs.declared.tree.Function.{Function}
 use Rattle.sk_tree.specs.declared.tree.Param.{Param}
 use Rattle.sk_tree.specs.declared.tree.ParamKind.{ParamKind}
@@ -36,89 +35,25 @@ pub record Around : Type 0 where
   pub functions : List (List ℕ × Known)
   pub scope : List (List ℕ × Slot)
 
--- code that may be placed at any address
-abbrev pub Placed : Type 0
-Placed = (at : ℕ) → List Instr
+abbrev pub name_type : Option Slot → Ty
+name_type (Some slot) = kind_type slot.kind
+name_type None = Int
 
--- an expression's type, its code, and the most values that stand on the stack while it is evaluated and after it
-pub record Compiled : Type 0 where
-  pub ty : Around → Ty
-  pub code : Around → Placed
-  pub depth : ℕ
-
--- where an int is wanted and the value is long, it is reduced
-abbrev pub narrowed : (wanted given : Ty) → List Instr
-narrowed Int Int = []
-narrowed Int Long = instr.Wrap ∷ []
-narrowed Long given = []
-
--- code, and behind it code of another place
-abbrev pub then_code : List Instr → Placed → Placed
-then_code first second at = first ++ second (at + length first)
-
--- an expression where a value of a type is wanted
-abbrev pub wanted_code : Ty → Compiled → Around → Placed
-wanted_code ty part around at = part.code around at ++ narrowed ty (part.ty around)
-
--- expressions from left to right, each as it is
-abbrev pub places_code : List Compiled → Around → Placed
-places_code [] around at = []
-places_code (part ∷ parts) around at = then_code (part.code around at) (places_code parts around) at
-
--- arguments from left to right, for parameters of these kinds
-abbrev pub arguments_code : List ParamKind → List Compiled → Around → Placed
-arguments_code kinds [] around at = []
-arguments_code [] (part ∷ parts) around at = places_code (part ∷ parts) around at
-arguments_code (kind ∷ kinds) (part ∷ parts) around at =
-    then_code (wanted_code (kind_type kind) part around at) (arguments_code kinds parts around) at
-
--- each value stays on the stack while those behind it are evaluated
-abbrev pub parts_depth : List Compiled → ℕ
-parts_depth [] = 0
-parts_depth (part ∷ parts) = max part.depth (suc (parts_depth parts))
-
-abbrev pub prefix_code : Un → Ty → Instr
-prefix_code prefix.Neg ty = instr.Neg ty
-prefix_code prefix.Inv ty = instr.Inv ty
-prefix_code prefix.Not ty = instr.Not
-
+-- the value of a scalar; a parameter of another kind is no value
 abbrev pub name_code : Option Slot → List Instr
-name_code (Some slot) = instr.Load slot.number ∷ []
+name_code (Some slot) = if is_scalar slot.kind then instr.Load slot.number ∷ [] else []
 name_code None = []
+
+abbrev pub name_depth : Option Slot → ℕ
+name_depth (Some slot) = if is_scalar slot.kind then 1 else 0
+name_depth None = 0
 
 abbrev pub field_code : Option Slot → List ℕ → List Instr
 field_code (Some slot) field = instr.Field slot.number field ∷ []
 field_code None field = []
 
--- the right operand is evaluated only where the left one holds
-abbrev pub both_code : (left right : Placed) → Placed
-both_code left right at =
-    let one : List Instr = left at in
-    let other : List Instr = right (at + length one + 1) in
-    let fails : ℕ = at + length one + length other + 4 in
-    one ++ instr.Zero fails ∷ other ++ instr.Zero fails ∷ instr.Push (pos 1) ∷ instr.Jump (fails + 1) ∷ instr.Push (pos 0) ∷ []
-
--- the right operand is evaluated only where the left one does not hold
-abbrev pub either_code : (left right : Placed) → Placed
-either_code left right at =
-    let one : List Instr = left at in
-    let second : ℕ = at + length one + 3 in
-    let other : List Instr = right second in
-    let fails : ℕ = second + length other + 3 in
-    one ++ instr.Zero second ∷ instr.Push (pos 1) ∷ instr.Jump (fails + 1)
-    ∷ other ++ instr.Zero fails ∷ instr.Push (pos 1) ∷ instr.Jump (fails + 1) ∷ instr.Push (pos 0) ∷ []
-
--- a test, and one of two pieces of code
-abbrev pub choice_code : (test one other : Placed) → Placed
-choice_code test one other at =
-    let first : List Instr = test at in
-    let second : List Instr = one (at + length first + 1) in
-    let third : ℕ = at + length first + length second + 2 in
-    let last : List Instr = other third in
-    first ++ instr.Zero third ∷ second ++ instr.Jump (third + length last) ∷ last
-
 -- what is applied: an element of a parameter at places, or a function to arguments
-abbrev pub applied_code : Option Slot → Option Known → List Compiled → Around → Placed
+abbrev pub applied_code : Option Slot → Option Known → List (Piece Around) → Around → Placed
 applied_code (Some slot) known parts around at =
     let places : List Instr = places_code parts around at in
     elim slot.kind [
@@ -130,64 +65,36 @@ applied_code (Some slot) known parts around at =
 applied_code None (Some known) parts around at = arguments_code known.kinds parts around at ++ instr.Call known.number ∷ []
 applied_code None None parts around at = places_code parts around at
 
-abbrev pub name_type : Option Slot → Ty
-name_type (Some slot) = kind_type slot.kind
-name_type None = Int
-
 abbrev pub applied_type : Option Slot → Option Known → Ty
 applied_type (Some slot) known = kind_type slot.kind
 applied_type None (Some known) = known.ret
 applied_type None None = Int
 
--- what an expression is compiled to, its parts being replaced by what they are compiled to
-abbrev pub compiled_step : Expr-F Compiled → Compiled
-compiled_step (Number ty number) =
-    record { ty = λ around. ty; code = λ around at. instr.Push number ∷ []; depth = 1 }
-compiled_step (Name name) = record {
-  ty = λ around. name_type (bound_to name around.scope);
-  code = λ around at. name_code (bound_to name around.scope);
-  depth = 1;
-}
-compiled_step (Field name field) = record {
-  ty = λ around. Int;
-  code = λ around at. field_code (bound_to name around.scope) field;
-  depth = 1;
-}
-compiled_step (Method name method) = record { ty = λ around. Int; code = λ around at. []; depth = 1 }
-compiled_step (Unary op part) = record {
-  ty = λ around. prefix_type op (part.ty around);
-  code = λ around at. part.code around at ++ prefix_code op (part.ty around) ∷ [];
-  depth = part.depth;
-}
-compiled_step (Cast ty part) = record { ty = λ around. ty; code = wanted_code ty part; depth = part.depth }
-compiled_step (Binary op left right) = record {
-  ty = λ around. result_type op (left.ty around) (right.ty around);
-  code = λ around at. then_code (left.code around at) (right.code around) at
-      ++ instr.Binary op (operation_type op (left.ty around) (right.ty around)) ∷ [];
-  depth = max left.depth (suc right.depth);
-}
-compiled_step (Both left right) = record {
-  ty = λ around. Int;
-  code = λ around. both_code (left.code around) (right.code around);
-  depth = max left.depth right.depth;
-}
-compiled_step (Either left right) = record {
-  ty = λ around. Int;
-  code = λ around. either_code (left.code around) (right.code around);
-  depth = max left.depth right.depth;
-}
-compiled_step (Choose test one other) = record {
-  ty = λ around. wider (one.ty around) (other.ty around);
-  code = λ around. choice_code (test.code around) (one.code around) (other.code around);
-  depth = max test.depth (max one.depth other.depth);
-}
-compiled_step (Apply name parts) = record {
-  ty = λ around. applied_type (bound_to name around.scope) (bound_to name around.functions);
-  code = λ around. applied_code (bound_to name around.scope) (bound_to name around.functions) parts around;
-  depth = max 1 (parts_depth parts);
+-- what names are compiled to in a function; it has no methods
+abbrev pub function_leaves : Leaves Around
+function_leaves = record {
+  scalar = λ around name. record {
+    ty = name_type (bound_to name around.scope);
+    code = name_code (bound_to name around.scope);
+    depth = name_depth (bound_to name around.scope);
+  };
+  field = λ around name field. record { ty = Int; code = field_code (bound_to name around.scope) field; depth = 1 };
+  method = λ around name method. record { ty = Int; code = []; depth = 1 };
+  applied = λ name parts. record {
+    name = [];
+    ty = λ around. applied_type (bound_to name around.scope) (bound_to name around.functions);
+    code = λ around. applied_code (bound_to name around.scope) (bound_to name around.functions) parts around;
+    depth = λ around. max 1 (parts_depth parts around);
+  };
 }
 
--- what an expression is compiled to
+abbrev pub Compiled : Type 0
+Compiled = Piece Around
+
+-- what an expression of a function is compiled to, its parts being replaced by what they are compiled to
+abbrev pub compiled_step : Expr-F Compiled → Compiled
+compiled_step = piece_step function_leaves
+
 abbrev pub compiled_of : Expr → Compiled
 compiled_of = fold-Expr Compiled compiled_step
 
@@ -247,7 +154,7 @@ block_emitted statements within standing = record (all_emitted statements within
 -- an expression as a value of a type, and an instruction that takes it
 abbrev pub taken_code : Ty → Compiled → Instr → Within → Standing → Emitted
 taken_code ty part last within standing =
-    only_code standing (wanted_code ty part (around_in within standing) standing.at ++ last ∷ []) part.depth
+    only_code standing (wanted_code ty part (around_in within standing) standing.at ++ last ∷ []) (part.depth (around_in within standing))
 
 -- a scalar in scope that has the next slot
 abbrev pub declared_slot : List ℕ → Ty → Emitted → Emitted
@@ -258,7 +165,7 @@ declared_slot name ty emitted = record emitted {
 
 abbrev pub assigned_code : Option Slot → Compiled → Emitting
 assigned_code (Some slot) part within standing = taken_code (kind_type slot.kind) part (instr.Store slot.number) within standing
-assigned_code None part within standing = only_code standing [] part.depth
+assigned_code None part within standing = only_code standing [] (part.depth (around_in within standing))
 
 -- a test, and where it holds a block
 abbrev pub if_emitted : Compiled → List Emitting → Emitting
@@ -269,7 +176,7 @@ if_emitted test one within standing =
       code = first ++ instr.Zero (standing.at + length first + 1 + length inner.code) ∷ inner.code;
       scope = standing.scope;
       slots = inner.slots;
-      depth = max test.depth inner.depth;
+      depth = max (test.depth (around_in within standing)) inner.depth;
     }
 
 -- a test, and one of two blocks
@@ -283,7 +190,7 @@ if_else_emitted test one other within standing =
       code = first ++ instr.Zero third ∷ inner.code ++ instr.Jump (third + length last.code) ∷ last.code;
       scope = standing.scope;
       slots = last.slots;
-      depth = max test.depth (max inner.depth last.depth);
+      depth = max (test.depth (around_in within standing)) (max inner.depth last.depth);
     }
 
 -- the test of a loop, and where it holds a turn, the body, the step, and the test again
@@ -297,7 +204,7 @@ loop_emitted test body step within standing =
       code = first ++ instr.Zero ends ∷ instr.Turn ∷ inner.code ++ last.code ++ instr.Jump standing.at ∷ [];
       scope = standing.scope;
       slots = last.slots;
-      depth = max test.depth (max inner.depth last.depth);
+      depth = max (test.depth (around_in within standing)) (max inner.depth last.depth);
     }
 
 -- What a statement of a function is compiled to, its parts being replaced by what they are compiled to. A function has no

@@ -10,7 +10,8 @@ use Rattle.sk_base.specs.Arithmetic.{wrapped}
 use Rattle.sk_meaning.specs.Evaluation.{Callable, Value, kind_type}
 use Rattle.sk_meaning.specs.Expressions.{then_do}
 use Rattle.sk_tree.specs.declared.tree.ParamKind.{ParamKind}
-use Rattle.sk_isa.specs.Coded.{Point, Routine, Callee, Next, Stuck, next_of, returning, with_many}
+use Rattle.sk_isa.specs.Coded.{Point, Routine, Callee, Next, next_of}
+use Rattle.sk_isa.specs.Configurations.{Stuck, returning, with_many}
 use Rattle.sk_scheme.specs.Scheme.{Known}
 use Rattle.sk_isa.specs.declared.code.Instr.{Instr}
 use Rattle.sk_isa.specs.declared.code.Instr.TheVariants as instr
@@ -93,7 +94,7 @@ module _ (routine : Routine) where
       let point : Point = stands at (reverse f ++ stack) slots turns in
       let does : next_of routine (instr.Call known.number) point ≡ returning point stack (callable.call (map Value values) turns) =
       ap (λ (o : Option Callee). elim o as (λ x. Next) [
-        | Some callee ↦ with_many callee.takes point.stack (λ values rest. returning point rest (callee.call values point.turns))
+        | Some callee ↦ with_many callee.takes point.stack (λ values rest. returning point rest (callee.call values point.kept))
         | None ↦ Stuck
       ]) same.there
       ∙ taking same.callee f stack slots at turns takes ∙ ap (returning point stack) (same.call values turns n) in

@@ -14,8 +14,9 @@ use Rattle.sk_tree.specs.declared.tree.Un.{Un}
 use Rattle.sk_tree.specs.declared.tree.Un.TheVariants as prefix
 use Rattle.sk_meaning.specs.Evaluation.{Callables, Scope, names_in}
 use Rattle.sk_meaning.specs.Expressions.{raised, holds, then_do, prefix_type, prefix_of, wider, operation_type, result_type}
-use Rattle.sk_isa.specs.Coded.{Routine, Goes, next_of, giving}
-use Rattle.sk_scheme.specs.Scheme.{Placed, narrowed, prefix_code, then_code, both_code, either_code, choice_code}
+use Rattle.sk_isa.specs.Coded.{Routine, by_trap, next_of}
+use Rattle.sk_isa.specs.Configurations.{Goes, giving}
+use Rattle.sk_scheme.specs.Pieces.{Placed, narrowed, prefix_code, then_code, both_code, either_code, choice_code}
 use Rattle.sk_isa.specs.declared.code.Instr.{Instr}
 use Rattle.sk_isa.specs.declared.code.Instr.TheVariants as instr
 use Rattle.sk_scheme_runs.proofs.Runs.{HasAt, has_front, has_back, has_rest, stands, Leads, leads_on, step, last_step, leads_same, Gives, after, before, then_gives, one_gives}
@@ -259,9 +260,9 @@ module _ (routine : Routine) where
       → Gives routine result slots at (b ∷ a ∷ stack) turns to stack (raised (names_in callables values) o turns)
   operator_gives callables values op ty result slots at to stack turns a b (Ok v) here e does fits =
       one_gives routine result (instr.Binary op ty) slots at to (b ∷ a ∷ stack) stack turns v here e fits
-      (ap (λ (r : Result ℤ Trap). giving (stands at (b ∷ a ∷ stack) slots turns) stack r) does)
+      (ap (λ (r : Result ℤ Trap). giving by_trap (stands at (b ∷ a ∷ stack) slots turns) stack r) does)
   operator_gives callables values op ty result slots at to stack turns a b (Err trap) here e does fits =
-      last_step routine (instr.Binary op ty) _ (Err trap) here (ap (λ (r : Result ℤ Trap). giving (stands at (b ∷ a ∷ stack) slots turns) stack r) does)
+      last_step routine (instr.Binary op ty) _ (Err trap) here (ap (λ (r : Result ℤ Trap). giving by_trap (stands at (b ∷ a ∷ stack) slots turns) stack r) does)
 
   pub binary_gives : (callables : Callables) (values : Scope) (op : Op) (left_ty right_ty : Ty) (left right : Placed) (slots : List ℤ) (at : ℕ) (stack : List ℤ) (turns : ℕ) (o : Result (ℤ × ℕ) Trap) (p : ℕ → Result (ℤ × ℕ) Trap)
       → HasAt routine.instrs at (then_code (left at) right at ++ instr.Binary op (operation_type op left_ty right_ty) ∷ [])

@@ -14,8 +14,11 @@ use Rattle.sk_tree.specs.declared.tree.ParamKind.{ParamKind}
 use Rattle.sk_tree.specs.declared.tree.Un.{Un}
 use Rattle.sk_tree.specs.declared.tree.Expr.{Expr, Expr-F, roll-Expr, map-Expr, fold-roll-Expr, ind-Expr}
 use Rattle.sk_tree.specs.declared.tree.Expr.TheOpen as layer
-use Rattle.sk_isa.specs.Coded.{Routine, Next, Goes, Stuck}
-use Rattle.sk_scheme.specs.Scheme.{Slot, Known, Around, Compiled, compiled_of, compiled_step, narrowed, wanted_code, arguments_code, applied_code, applied_type, name_code, name_type, prefix_code}
+use Rattle.sk_isa.specs.Coded.{Routine, Next}
+use Rattle.sk_isa.specs.Configurations.{Goes, Stuck}
+use Rattle.sk_scheme.specs.Pieces.{narrowed, wanted_code, arguments_code, prefix_code}
+use Rattle.sk_scheme.specs.Scheme.{Slot, Known, Around, Compiled, compiled_of, compiled_step, applied_code, applied_type, name_code, name_type}
+use Rattle.sk_scheme.proofs.ScalarNames.{scalar-code}
 use Rattle.sk_isa.specs.declared.code.Instr.{Instr}
 use Rattle.sk_isa.specs.declared.code.Instr.TheVariants as instr
 use Rattle.sk_plain.specs.Plain.{Counts, is_plain_expression, plain_expression_step, fits_type, is_among, takes}
@@ -75,12 +78,16 @@ module _ (routine : Routine) (counts : Counts) (functions : List (List ℕ × Kn
       loads s b at stack turns has =
           let value_is : ((names_at s).scalar name).1 ≡ b.value =
           ap (λ (o : Option Binding). (elim o as (λ x. Ty × ℤ) [ Some binding ↦ (kind_type binding.kind, number_in binding.argument) | None ↦ (Int, pos 0) ]).1) b.binding_is in
-          let has' : HasAt routine.instrs at (name_code (Some b.slot)) = subst (λ (o : Option Slot). HasAt routine.instrs at (name_code o)) b.slot_is has in
+          let has' : HasAt routine.instrs at (instr.Load b.slot.number ∷ []) =
+          subst (λ (c : List Instr). HasAt routine.instrs at c) (scalar-code b.slot b.ty b.kind)
+          (subst (λ (o : Option Slot). HasAt routine.instrs at (name_code o)) b.slot_is has) in
           let does = ap (λ (o : Option ℤ). elim o as (λ x. Next) [ Some value ↦ Goes (stands (suc at) (value ∷ stack) s.slots turns) | None ↦ Stuck ]) b.held in
           let fits : InRange (kind_type b.slot.kind) b.value = subst (λ k. InRange (kind_type k) b.value) (sym b.kind) b.fits in
           let g = one_gives routine (kind_type b.slot.kind) (instr.Load b.slot.number) s.slots at (at + 1) stack stack turns b.value has'.0 (omega arith) fits does in
           let g' = subst (λ (v : ℤ). Gives routine (kind_type b.slot.kind) s.slots at stack turns (at + 1) stack (Ok (v, turns))) (sym value_is) g in
-          subst (λ (o : Option Slot). Gives routine (name_type o) s.slots at stack turns (at + length (name_code o)) stack (Ok (((names_at s).scalar name).1, turns))) (sym b.slot_is) g'
+          let g'' = subst (λ (c : List Instr). Gives routine (kind_type b.slot.kind) s.slots at stack turns (at + length c) stack (Ok (((names_at s).scalar name).1, turns)))
+          (sym (scalar-code b.slot b.ty b.kind)) g' in
+          subst (λ (o : Option Slot). Gives routine (name_type o) s.slots at stack turns (at + length (name_code o)) stack (Ok (((names_at s).scalar name).1, turns))) (sym b.slot_is) g''
 
   unary_compiled : (op : Un) (m : ExpressionMeaning ℕ Trap) (c : Compiled) (p : Counts → List (List ℕ) → Bool) → IsCompiled m c p
       → IsCompiled (meaning_step (layer.Unary op m)) (compiled_step (layer.Unary op c)) (plain_expression_step (layer.Unary op p))

@@ -8,7 +8,8 @@ use Rattle.sk_base.specs.declared.number.Trap.TheVariants.{Turns}
 use Rattle.sk_base.specs.Arithmetic.{InRange, wrapped}
 use Rattle.sk_meaning.specs.Evaluation.{Scope, Flow, Going, Returned, and_then}
 use Rattle.sk_meaning.specs.Expressions.{holds, then_do}
-use Rattle.sk_isa.specs.Coded.{Routine, Goes, Stuck}
+use Rattle.sk_isa.specs.Coded.{Routine}
+use Rattle.sk_isa.specs.Configurations.{Goes, Stuck}
 use Rattle.sk_scheme.specs.Scheme.{Slot}
 use Rattle.sk_isa.specs.declared.code.Instr.TheVariants as instr
 use Rattle.sk_scheme_runs.proofs.Runs.{stands, Finishes, Leads, leads_on, step, last_step, leads_same, Gives}

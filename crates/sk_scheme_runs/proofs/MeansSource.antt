@@ -8,7 +8,8 @@ use Rattle.sk_tree.specs.declared.tree.Program.{Program}
 use Rattle.sk_isa.specs.Coded.{Callee, callee_of, callees_below, code_value, routine_of, start_of}
 use Rattle.sk_scheme.specs.Plans.{functions_before_main, functions_object, main_signature}
 use Rattle.sk_scheme.specs.Scheme.{Known, kinds_of, known_of, code_of, signature_of, codes_after, signatures_after, signatures_of}
-use Rattle.sk_isa.specs.Soundness.{SuitParams, IsSound}
+use Rattle.sk_isa.specs.Soundness.{SuitParams}
+use Rattle.sk_isa.specs.SoundObjects.{HasSoundFunctions}
 use Rattle.sk_isa.specs.declared.code.Code.{Code}
 use Rattle.sk_isa.specs.declared.object.Object.{Object}
 use Rattle.sk_isa.specs.declared.object.Signature.{Signature}
@@ -42,7 +43,7 @@ more_callees callees more (c ∷ cs) (k ∷ ks) (f ∷ fs) h = (
 )
 more_callees callees more cs ks fs h = absurd h
 
-module _ (object : Object) (sound : IsSound object) where
+module _ (object : Object) (sound : HasSoundFunctions object) where
   abbrev below : ℕ → List Callee
   below number = callees_below object.signatures object.functions number
 
@@ -138,7 +139,7 @@ module _ (object : Object) (sound : IsSound object) where
       (next_from number known first functions from) plain.1 size' are' n function e arguments suits turns)
 
 -- a function of a plain program
-program_runs : (program : Program) → IsPlain program → (sound : IsSound (functions_object program)) → (n : ℕ) (function : Function) → slice_get (functions_before_main program) n ≡ Some function
+program_runs : (program : Program) → IsPlain program → (sound : HasSoundFunctions (functions_object program)) → (n : ℕ) (function : Function) → slice_get (functions_before_main program) n ≡ Some function
     → (arguments : List Argument) → SuitParams (kinds_of function.params) arguments → (turns : ℕ)
     → HasRun (functions_object program) sound n arguments turns (apply_of (callables_of (take n (functions_before_main program))) function arguments turns)
 program_runs program plain sound n function e arguments suits turns =
@@ -155,13 +156,13 @@ program_runs program plain sound n function e arguments suits turns =
     (functions_run object sound functions 0 [] [] [] from plain.functions (ap length none) (subst (λ (cs : List Callee). AreCallees cs [] [] []) (sym none) tt) n function e arguments suits turns)
 
 -- the runs of a plain program's functions end with the values of their sources
-pub runs_as_source : (program : Program) → IsPlain program → IsSound (functions_object program) → RunsAsSource program
+pub runs_as_source : (program : Program) → IsPlain program → HasSoundFunctions (functions_object program) → RunsAsSource program
 runs_as_source program plain sound n function e arguments suits turns =
     let r = program_runs program plain sound n function e arguments suits turns in
     record { code = r.code; found = r.found; steps = r.run.steps; outcome = r.run.outcome }
 
 -- the functions of a plain program mean what their sources mean
-pub means_source : (program : Program) → IsPlain program → IsSound (functions_object program) → MeansSource program (functions_object program)
+pub means_source : (program : Program) → IsPlain program → HasSoundFunctions (functions_object program) → MeansSource program (functions_object program)
 means_source program plain sound n function e arguments suits turns =
     let r = program_runs program plain sound n function e arguments suits turns in
     function_of-code (functions_object program) n r.code arguments turns r.found ∙ r.is

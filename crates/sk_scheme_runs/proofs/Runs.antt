@@ -5,7 +5,8 @@ use Rattle.sk_base.specs.declared.number.Ty.{Ty}
 use Rattle.sk_base.specs.declared.number.Trap.{Trap}
 use Rattle.sk_base.specs.Arithmetic.{InRange}
 use Rattle.sk_meaning.specs.Expressions.{then_do}
-use Rattle.sk_isa.specs.Coded.{Point, Routine, Next, Goes, Ends, next_of, outcome_of, Outcome, Ended, Lost, followed}
+use Rattle.sk_isa.specs.Coded.{Point, Routine, Next, next_of, outcome_of}
+use Rattle.sk_isa.specs.Configurations.{Goes, Ends, Outcome, Ended, Lost, followed, run_of}
 use Rattle.sk_isa.specs.declared.code.Instr.{Instr}
 use Rattle.sk_plain.proofs.Lists.{slice_get-seam}
 
@@ -41,7 +42,7 @@ has_all is = has_behind is []
 
 -- a point by its parts
 abbrev pub stands : ℕ → List ℤ → List ℤ → ℕ → Point
-stands at stack slots turns = record { at = at; stack = stack; slots = slots; turns = turns }
+stands at stack slots turns = record { at = at; stack = stack; slots = slots; kept = turns }
 
 module _ (routine : Routine) where
   -- a run from the point ends with the result
@@ -59,9 +60,9 @@ module _ (routine : Routine) where
   -- one instruction
   one_step : (i : Instr) (point : Point) (next : Next) (k : ℕ) → slice_get routine.instrs point.at ≡ Some i → next_of routine i point ≡ next
       → outcome_of routine (suc k) point ≡ followed next (outcome_of routine k)
-  unfolding outcome_of
+  unfolding run_of
   one_step i point next k at does =
-      ap (λ (o : Option Instr). elim o as (λ x. Outcome) [ Some instr ↦ followed (next_of routine instr point) (outcome_of routine k) | None ↦ Lost ]) at
+      ap (λ (o : Option Instr). elim o as (λ x. Outcome ℕ Trap) [ Some instr ↦ followed (next_of routine instr point) (outcome_of routine k) | None ↦ Lost ]) at
       ∙ ap (λ (n : Next). followed n (outcome_of routine k)) does
 
   pub step : (i : Instr) (from to : Point) → slice_get routine.instrs from.at ≡ Some i → next_of routine i from ≡ Goes to → Leads from to

@@ -12,7 +12,8 @@ use Rattle.sk_tree.specs.declared.tree.Expr.{Expr}
 use Rattle.sk_tree.specs.declared.tree.ParamKind.TheVariants.{Scalar}
 use Rattle.sk_tree.specs.declared.tree.What.TheOpen as what
 use Rattle.sk_isa.specs.Coded.{Routine}
-use Rattle.sk_scheme.specs.Scheme.{Slot, Around, Compiled, compiled_of, Within, Standing, Emitted, Emitting, around_in, behind, joined, all_emitted, block_emitted, wanted_code, narrowed, assigned_code, emitting_step}
+use Rattle.sk_scheme.specs.Pieces.{wanted_code, narrowed}
+use Rattle.sk_scheme.specs.Scheme.{Slot, Around, Compiled, compiled_of, Within, Standing, Emitted, Emitting, around_in, behind, joined, all_emitted, block_emitted, assigned_code, emitting_step}
 use Rattle.sk_isa.specs.declared.code.Instr.{Instr}
 use Rattle.sk_isa.specs.declared.code.Instr.TheVariants as instr
 use Rattle.sk_plain.specs.Plain.{Counts, ScalarNames, is_plain_expression, is_among, Plainness, plainness_step, plainness_if, behind_if, all_behind, block_is_plain}

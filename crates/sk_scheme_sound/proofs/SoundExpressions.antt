@@ -10,7 +10,9 @@ use Rattle.sk_tree.specs.declared.tree.ParamKind.{ParamKind}
 use Rattle.sk_tree.specs.declared.tree.Un.{Un}
 use Rattle.sk_tree.specs.declared.tree.Expr.{Expr, Expr-F, roll-Expr, map-Expr, fold-roll-Expr, ind-Expr}
 use Rattle.sk_tree.specs.declared.tree.Expr.TheOpen as layer
-use Rattle.sk_scheme.specs.Scheme.{Slot, Known, Around, Compiled, compiled_of, compiled_step, wanted_code, arguments_code, applied_code, applied_type, name_code, name_type, parts_depth}
+use Rattle.sk_scheme.specs.Pieces.{wanted_code, arguments_code, parts_depth}
+use Rattle.sk_scheme.specs.Scheme.{Slot, Known, Around, Compiled, compiled_of, compiled_step, applied_code, applied_type, name_code, name_depth, name_type}
+use Rattle.sk_scheme.proofs.ScalarNames.{scalar-code, scalar-depth}
 use Rattle.sk_isa.specs.Soundness.{Named}
 use Rattle.sk_isa.specs.declared.code.Instr.{Instr}
 use Rattle.sk_plain.specs.Plain.{Counts, ScalarNames, is_plain_expression, plain_expression_step, is_among, takes}
@@ -31,8 +33,8 @@ module _ (named : Named) (depth : ℕ) (counts : Counts) (functions : List (List
 
   -- code that leaves a value of its type where it is plain
   pub record IsValue (c : Compiled) (plain : Counts → ScalarNames → Bool) : Type 0 where
-    pub high : (scope : List (List ℕ × Slot)) → Scoped scope → plain counts (names_of scope) ≡ true → 1 ≤ c.depth
-    pub piece : (scope : List (List ℕ × Slot)) → Scoped scope → plain counts (names_of scope) ≡ true → (at : ℕ) (types : List Ty) → length types + c.depth ≤ depth
+    pub high : (scope : List (List ℕ × Slot)) → Scoped scope → plain counts (names_of scope) ≡ true → 1 ≤ c.depth (around_of scope)
+    pub piece : (scope : List (List ℕ × Slot)) → Scoped scope → plain counts (names_of scope) ≡ true → (at : ℕ) (types : List Ty) → length types + c.depth (around_of scope) ≤ depth
         → Piece named depth at (c.code (around_of scope) at) (at + length (c.code (around_of scope) at)) (Some types) (Some (c.ty (around_of scope) ∷ types))
 
   number_value : (ty : Ty) (number : ℤ) → IsValue (compiled_step (layer.Number ty number)) (plain_expression_step (layer.Number ty number))
@@ -43,11 +45,15 @@ module _ (named : Named) (depth : ℕ) (counts : Counts) (functions : List (List
 
   name_value : (name : List ℕ) → IsValue (compiled_step (layer.Name name)) (plain_expression_step (layer.Name name))
   name_value name = record {
-    high = λ scope s plain. omega arith;
+    high = λ scope s plain.
+        let b = name_bound named.own.slots name scope s plain in
+        subst (λ (o : Option Slot). 1 ≤ name_depth o) (sym b.is) (subst (λ (n : ℕ). 1 ≤ n) (sym (scalar-depth b.slot b.has.ty b.has.kind)) (omega arith));
     piece = λ scope s plain at types low.
         let b = name_bound named.own.slots name scope s plain in
         subst (λ (o : Option Slot). Piece named depth at (name_code o) (at + length (name_code o)) (Some types) (Some (name_type o ∷ types))) (sym b.is)
-        (load_piece named depth b.slot at types b.has (omega (arith, low)));
+        (subst (λ (c : List Instr). Piece named depth at c (at + length c) (Some types) (Some (kind_type b.slot.kind ∷ types)))
+        (sym (scalar-code b.slot b.has.ty b.has.kind))
+        (load_piece named depth b.slot at types b.has (omega (arith, low))));
   }
 
   never_value : (c : Compiled) → IsValue c (λ counts names. false)
@@ -67,7 +73,7 @@ module _ (named : Named) (depth : ℕ) (counts : Counts) (functions : List (List
 
   -- an expression where a value of a type is wanted
   pub wanted_value : (wanted : Ty) (c : Compiled) (p : Counts → ScalarNames → Bool) → IsValue c p → (scope : List (List ℕ × Slot)) → Scoped scope → p counts (names_of scope) ≡ true → (at : ℕ) (types : List Ty)
-      → length types + c.depth ≤ depth
+      → length types + c.depth (around_of scope) ≤ depth
       → Piece named depth at (wanted_code wanted c (around_of scope) at) (at + length (wanted_code wanted c (around_of scope) at)) (Some types) (Some (wanted ∷ types))
   wanted_value wanted c p is scope s plain at types low =
       let high = is.high scope s plain in
@@ -159,7 +165,7 @@ module _ (named : Named) (depth : ℕ) (counts : Counts) (functions : List (List
   Parts = List ((e : Expr) × IsSound e)
 
   arguments_piece : (ys : Parts) (kinds : List ParamKind) (scope : List (List ℕ × Slot)) → Scoped scope → parts_plain counts ys (names_of scope) ≡ true → length kinds ≡ length ys
-      → (at : ℕ) (types : List Ty) → length types + parts_depth (codes_at ys) ≤ depth
+      → (at : ℕ) (types : List Ty) → length types + parts_depth (codes_at ys) (around_of scope) ≤ depth
       → Piece named depth at (arguments_code kinds (codes_at ys) (around_of scope) at) (at + length (arguments_code kinds (codes_at ys) (around_of scope) at)) (Some types) (Some (pushed kinds types))
   arguments_piece [] [] scope s plain n at types low = nothing_piece named depth at (Some types)
   arguments_piece [] (kind ∷ kinds) scope s plain n at types low = absurd (omega (arith, n))
@@ -180,9 +186,9 @@ module _ (named : Named) (depth : ℕ) (counts : Counts) (functions : List (List
       (then_piece named depth at mid (mid + length rest) first rest (Some types) (Some (ty ∷ types)) (Some (pushed kinds (ty ∷ types))) f g)
 
   -- each value stays on the stack
-  parts_high : (ys : Parts) → length ys ≤ parts_depth (codes_at ys)
-  parts_high [] = omega arith
-  parts_high (y ∷ ys) = let rest = parts_high ys in omega (arith, rest)
+  parts_high : (ys : Parts) (a : Around) → length ys ≤ parts_depth (codes_at ys) a
+  parts_high [] a = omega arith
+  parts_high (y ∷ ys) a = let rest = parts_high ys a in omega (arith, rest)
 
   apply_value : AreCallees named.signatures named.function counts functions → (name : List ℕ) (ys : Parts)
       → IsValue (compiled_step (layer.Apply name (codes_at ys))) (plain_expression_step (layer.Apply name (map is_plain_expression (exprs_of ys))))
@@ -201,7 +207,7 @@ module _ (named : Named) (depth : ℕ) (counts : Counts) (functions : List (List
         let n : length f.known.kinds ≡ length ys = f.callee.count_is ∙ c.2 ∙ plains_length ys in
         let count : c.0 ≡ length ys = c.2 ∙ plains_length ys in
         let code : List Instr = arguments_code f.known.kinds (codes_at ys) a at in
-        let high = parts_high ys in
+        let high = parts_high ys a in
         let g = call_piece named depth c.0 f.known f.callee at (at + length code) code (Some types) types (omega (arith, low, count, high))
         (arguments_piece ys f.known.kinds scope s rest_plain n at types (omega (arith, low))) in
         subst (λ (o : Option Slot). Piece named depth at (applied_code o (bound_to name functions) (codes_at ys) a at) (at + length (applied_code o (bound_to name functions) (codes_at ys) a at))

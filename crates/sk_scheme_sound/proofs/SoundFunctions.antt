@@ -10,7 +10,7 @@ use Rattle.sk_tree.specs.declared.tree.Param.{Param}
 use Rattle.sk_tree.specs.declared.tree.ParamKind.{ParamKind}
 use Rattle.sk_tree.specs.declared.tree.ParamKind.TheVariants.{Scalar, Index, Proxy, Region}
 use Rattle.sk_scheme.specs.Scheme.{Slot, Known, Within, Standing, Emitted, all_emitted, emitting_of, parameters_from, kinds_of, body_emitted, code_of, signature_of, known_of, codes_after, signatures_after}
-use Rattle.sk_isa.specs.Soundness.{AreSlots, HasTypes, IsFineAt, IsSoundCode, Named, Types, is_scalar, names_what_is_there, serves}
+use Rattle.sk_isa.specs.Soundness.{AreSlots, HasTypes, IsFineAt, IsSoundCode, Named, Types, is_kind, is_scalar, left_by, names_what_is_there, serves}
 use Rattle.sk_isa.specs.declared.code.Code.{Code}
 use Rattle.sk_isa.specs.declared.object.Signature.{Signature}
 use Rattle.sk_plain.specs.Plain.{Counts, ScalarNames, IsPlainFunction, ArePlain, all_behind, plainness_of, returns_of}
@@ -68,7 +68,7 @@ nothing_first (Some (ty ∷ types)) h = let no : ⊥ = cc in absurd no
 nothing_first None h = absurd h
 
 -- a piece of code that begins with an empty stack, and is not left at its end
-has_types : (named : Named) (code : Code) (end : ℕ) → Fits named code.depth 0 code.instrs end (Some []) None → HasTypes named code
+has_types : (named : Named) (code : Code) (end : ℕ) → Fits named code.depth 0 code.instrs end (Some []) None → HasTypes (left_by named) code
 has_types named code end f = record {
   chosen = chosen_of f.choices;
   start = nothing_first (chosen_of f.choices 0) fine.0;
@@ -78,7 +78,7 @@ has_types named code end f = record {
     fine : Exits (chosen_of f.choices) 0 (Some []) × Each (FineAt named code.depth (chosen_of f.choices)) 0 code.instrs
     fine = f.fine (chosen_of f.choices) (chosen_all f.choices) tt
 
-    fine_at : (at : ℕ) (types : List Ty) → chosen_of f.choices at ≡ Some types → IsFineAt named code (chosen_of f.choices) at types
+    fine_at : (at : ℕ) (types : List Ty) → chosen_of f.choices at ≡ Some types → IsFineAt (left_by named) code (chosen_of f.choices) at types
     fine_at at types e =
         let within : at < length code.instrs = omega (arith, chosen_there f.choices at types e, f.size, f.long) in
         let i = slice_get-in code.instrs at within in
@@ -93,6 +93,14 @@ are_slots [] (Index dimension ∷ more) e = let no : ⊥ = cc in absurd no
 are_slots [] (Proxy dimension ty ∷ more) e = let no : ⊥ = cc in absurd no
 are_slots [] (Region dimension ty ∷ more) e = let no : ⊥ = cc in absurd no
 are_slots (param ∷ params) more e = (refl, are_slots params more e)
+
+-- a scalar is a kind of parameter
+scalars_are_kinds : (kinds : List ParamKind) → list_all is_scalar kinds ≡ true → list_all is_kind kinds ≡ true
+scalars_are_kinds [] e = refl
+scalars_are_kinds (Scalar ty ∷ kinds) e = scalars_are_kinds kinds e
+scalars_are_kinds (Index dimension ∷ kinds) e = let no : ⊥ = cc in absurd no
+scalars_are_kinds (Proxy dimension ty ∷ kinds) e = let no : ⊥ = cc in absurd no
+scalars_are_kinds (Region dimension ty ∷ kinds) e = let no : ⊥ = cc in absurd no
 
 -- a function's code is sound, and its slots are all scalars
 pub record IsSoundFunction (signatures : List Signature) (number : ℕ) (own : Signature) (code : Code) : Type 0 where
@@ -139,6 +147,7 @@ module _ (signatures : List Signature) (number : ℕ) (counts : Counts) (known :
       names = each_all (names_what_is_there named) 0 emitted.code part.names;
       loops = loops_take_turns emitted.code (0 + length emitted.code) part.jumps;
       slots = subst (λ (l : List ParamKind). AreSlots (kinds_of function.params) l) (sym grown.is) (are_slots (kinds_of function.params) grown.more grown.scalars);
+      kinds = scalars_are_kinds (kinds_of function.params) (scalar_kinds function.params plain.scalars);
       count = refl;
       params = omega (arith, kinds-length function.params, plain.few);
     };

@@ -1,6 +1,6 @@
 -- Jumps of pieces of code: where they lead, and the turns that the backward ones pass.
 use Rattle.std.proofs.Common.{◌≡◌, ◌⊎◌, ℕ, suc, ◌+◌, ◌<◌, ◌≤◌, List, [], ◌∷◌, ◌++◌, length, Some, slice_get, refl, ◌∙◌, subst, arith, length-append, inl, inr}
-use Rattle.sk_isa.specs.Soundness.{JumpsTo, LoopsTakeTurns, PassesTurn}
+use Rattle.sk_isa.specs.Soundness.{IsTurn, JumpsTo, LoopsTakeTurns, PassesMark}
 use Rattle.sk_isa.specs.declared.code.Instr.{Instr}
 use Rattle.sk_isa.specs.declared.code.Instr.TheVariants as instr
 use Rattle.sk_plain.proofs.Lists.{slice_get-front, slice_get-back}
@@ -170,13 +170,13 @@ loops_take_turns code end f at target jumps back = passes ((holds (IsJump 0 code
     holds R all k to (inl e) = let here : 0 + k ≡ k = omega arith in subst (λ n. R n to) here (each_at (λ k i. Aims (R k) i) 0 k (instr.Jump to) code all e)
     holds R all k to (inr e) = let here : 0 + k ≡ k = omega arith in subst (λ n. R n to) here (each_at (λ k i. Aims (R k) i) 0 k (instr.Zero to) code all e)
 
-    passes : PassesIn 0 code at target → PassesTurn code at target
+    passes : PassesIn 0 code at target → PassesMark IsTurn code at target
     passes p =
         let place : p.place ≡ p.turn = omega (arith, p.stands) in
         record {
-          turn = p.turn;
+          mark = p.turn;
           from = p.from;
           upto = p.upto;
-          is_turn = subst (λ n. slice_get code n ≡ Some instr.Turn) place p.is_turn;
+          is_mark = subst (λ n. slice_get code n ≡ Some instr.Turn) place p.is_turn;
           none_over = λ before behind jump low high upto. holds (Over p.turn at) p.none_over before behind jump low high upto;
         }

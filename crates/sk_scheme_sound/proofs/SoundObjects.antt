@@ -1,14 +1,16 @@
 -- The compiled form of a plain program is sound, and its functions take scalars alone.
-use Rattle.std.proofs.Common.{◌≡◌, ◌⊎◌, ℕ, zero, suc, ◌+◌, List, [], ◌∷◌, length, replicate, Some, None, slice_get, refl, sym, ap, ◌∙◌, subst, arith, length-append, inl, inr}
+use Rattle.std.proofs.Common.{◌≡◌, ◌⊎◌, ℕ, zero, suc, ◌+◌, List, [], ◌∷◌, length, replicate, Option, Some, None, slice_get, refl, sym, ap, ◌∙◌, subst, arith, length-append, inl, inr}
 use Rattle.std.proofs.lemmas.List.{length-map, length-replicate}
 use Rattle.std.proofs.lemmas.Option.{slice_get_within}
 use Rattle.std.specs.Prelude.{true, false, Bool}
 use Rattle.std.specs.List.{list_all}
+use Rattle.sk_tree.specs.declared.operator.Operator.{Operator}
 use Rattle.sk_tree.specs.declared.tree.Function.{Function}
 use Rattle.sk_tree.specs.declared.tree.Program.{Program}
 use Rattle.sk_scheme.specs.Plans.{functions_before_main, functions_object, main_signature}
 use Rattle.sk_scheme.specs.Scheme.{Known, codes_of, codes_after, signatures_of, signatures_after}
-use Rattle.sk_isa.specs.Soundness.{IsSound, IsSoundCode, TakesScalars, is_scalar}
+use Rattle.sk_isa.specs.SoundObjects.{HasSoundFunctions, TakesScalars}
+use Rattle.sk_isa.specs.Soundness.{IsSoundCode, is_scalar}
 use Rattle.sk_isa.specs.declared.code.Code.{Code}
 use Rattle.sk_isa.specs.declared.object.Signature.{Signature}
 use Rattle.sk_plain.specs.Plain.{IsPlain}
@@ -28,6 +30,12 @@ unmarked : (n k : ℕ) → (elim (slice_get (replicate n false) k) as (λ o. Boo
 unmarked zero k = refl
 unmarked (suc n) zero = refl
 unmarked (suc n) (suc k) = unmarked n k
+
+-- none is an associative operator
+unlisted : (n k : ℕ) → (elim (slice_get {X = Option Operator} (replicate n None) k) as (λ o. Option Operator) [ Some operator ↦ operator | None ↦ None ]) ≡ None
+unlisted zero k = refl
+unlisted (suc n) zero = refl
+unlisted (suc n) (suc k) = unlisted n k
 
 -- the functions of a plain program, each with its code and its signature
 function_is_sound : (program : Program) → IsPlain program → (k : ℕ) (own : Signature) → slice_get (signatures_of (functions_before_main program)) k ≡ Some own
@@ -58,7 +66,7 @@ code_is_sound program plain function code own e f = by_case (slice_get-one_more 
         absurd (omega (arith, within, last.1, codes-length 0 [] (functions_before_main program), signatures-length 0 [] (functions_before_main program)))
 
 -- The compiled form of a plain program is sound.
-pub plain_is_sound : (program : Program) → IsPlain program → IsSound (functions_object program)
+pub plain_is_sound : (program : Program) → IsPlain program → HasSoundFunctions (functions_object program)
 plain_is_sound program plain =
     let functions : List Function = functions_before_main program in
     let codes = codes-length 0 [] functions in
@@ -69,6 +77,7 @@ plain_is_sound program plain =
       operators = length-replicate (length functions) None ∙ sym codes;
       names = length-map functions (λ function. function.name) ∙ sym codes;
       marks = λ function marked. let no : false ≡ true = sym (unmarked (length functions) function) ∙ marked in let wrong : ⊥ = cc in absurd wrong;
+      listed = λ function operator is. let no : None ≡ Some operator = sym (unlisted (length functions) function) ∙ is in let wrong : ⊥ = cc in absurd wrong;
       instances = plain.instances;
     }
 

@@ -9,7 +9,8 @@ use Rattle.sk_tree.specs.declared.tree.Expr.{Expr}
 use Rattle.sk_tree.specs.declared.tree.ParamKind.{ParamKind}
 use Rattle.sk_tree.specs.declared.tree.ParamKind.TheVariants.{Scalar}
 use Rattle.sk_tree.specs.declared.tree.What.TheOpen as what
-use Rattle.sk_scheme.specs.Scheme.{Slot, Compiled, compiled_of, Within, Standing, Emitted, Emitting, around_in, behind, joined, only_code, all_emitted, block_emitted, wanted_code, assigned_code, if_emitted, if_else_emitted, loop_emitted, emitting_step}
+use Rattle.sk_scheme.specs.Pieces.{wanted_code}
+use Rattle.sk_scheme.specs.Scheme.{Slot, Compiled, compiled_of, Within, Standing, Emitted, Emitting, around_in, behind, joined, only_code, all_emitted, block_emitted, assigned_code, if_emitted, if_else_emitted, loop_emitted, emitting_step}
 use Rattle.sk_isa.specs.Soundness.{Named}
 use Rattle.sk_isa.specs.declared.code.Instr.{Instr}
 use Rattle.sk_plain.specs.Plain.{Counts, ScalarNames, is_plain_expression, is_among, Plainness, plainness_step, plainness_if, all_behind, block_is_plain, loop_is_plain}
@@ -47,7 +48,7 @@ module _ (named : Named) (depth : ℕ) (counts : Counts) (within : Within) (call
     piece : Piece named depth st.at (code_at e st) (st.at + length (code_at e st)) (Some []) (Some ((compiled_of e).ty (around_in within st) ∷ []))
     wanted : (ty : Ty) → Piece named depth st.at (wanted_code ty (compiled_of e) (around_in within st) st.at) (st.at + length (wanted_code ty (compiled_of e) (around_in within st) st.at)) (Some []) (Some (ty ∷ []))
 
-  expression_at : (e : Expr) (st : Standing) → InScope st.slots st.scope → IsGrown st.slots Own → is_plain_expression e counts (names_of st.scope) ≡ true → (compiled_of e).depth ≤ depth → IsAt e st
+  expression_at : (e : Expr) (st : Standing) → InScope st.slots st.scope → IsGrown st.slots Own → is_plain_expression e counts (names_of st.scope) ≡ true → (compiled_of e).depth (around_in within st) ≤ depth → IsAt e st
   expression_at e st scoped grown plain low =
       let is : IsSound named depth counts within.functions e = expression_sound named depth counts within.functions callees e in
       let own = scope_grown st.slots Own st.scope grown scoped in
@@ -97,7 +98,7 @@ module _ (named : Named) (depth : ℕ) (counts : Counts) (within : Within) (call
         let plain = and_right (is_among name names) (is_plain_expression e counts names) both in
         let b = name_bound st.slots name st.scope scoped among in
         let grown' : IsGrown st.slots Own = subst (λ (l : List ParamKind). IsGrown l Own) (assigned_slots o c within st) grown in
-        let low' : c.depth ≤ depth = subst (λ (o : Option Slot). (assigned_code o c within st).depth ≤ depth) b.is low in
+        let low' : c.depth (around_in within st) ≤ depth = subst (λ (o : Option Slot). (assigned_code o c within st).depth ≤ depth) b.is low in
         let at = expression_at e st scoped grown' plain low' in
         let code : List Instr = wanted_code (kind_type b.slot.kind) c (around_in within st) st.at in
         subst (λ (o : Option Slot). Part named depth st.at (assigned_code o c within st).code (st.at + length (assigned_code o c within st).code) (Some [])) (sym b.is)

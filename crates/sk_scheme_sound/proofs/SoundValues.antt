@@ -18,7 +18,8 @@ use Rattle.sk_tree.specs.declared.tree.ParamKind.{ParamKind}
 use Rattle.sk_tree.specs.declared.tree.ParamKind.TheVariants.{Scalar, Index, Proxy, Region}
 use Rattle.sk_tree.specs.declared.tree.Un.{Un}
 use Rattle.sk_tree.specs.declared.tree.Un.TheVariants as prefix
-use Rattle.sk_scheme.specs.Scheme.{Placed, Slot, Known, narrowed, prefix_code, both_code, either_code, choice_code}
+use Rattle.sk_scheme.specs.Pieces.{Placed, narrowed, prefix_code, both_code, either_code, choice_code}
+use Rattle.sk_scheme.specs.Scheme.{Slot, Known}
 use Rattle.sk_isa.specs.Soundness.{Named, Left, left_by, left_by_call, left_if, left_with, leads_to, names_what_is_there, of_many, scalar_in, serve_for, serves, is_number, number_type, is_scalar, is_there, takes_scalars}
 use Rattle.sk_isa.specs.declared.code.Instr.{Instr}
 use Rattle.sk_isa.specs.declared.code.Instr.TheVariants as instr

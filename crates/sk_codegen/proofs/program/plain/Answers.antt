@@ -1,5 +1,5 @@
 use Rattle.std.proofs.Common.{sym, subst}
-use Rattle.sk_isa.specs.Soundness.{IsSound, TakesScalars}
+use Rattle.sk_isa.specs.SoundObjects.{HasSoundFunctions, TakesScalars}
 use Rattle.sk_isa.specs.declared.object.Object.{Object}
 use Rattle.sk_plain.specs.Means.{MeansSource}
 use Rattle.sk_scheme_runs.proofs.MeansSource.{means_source}
@@ -8,7 +8,7 @@ use Rattle.sk_codegen.proofs.program.plain.Goals as goal
 
 pub returns-clause-sound : goal.returns-clause-sound
 returns-clause-sound c plain =
-    subst (λ (object : Object). IsSound object) (sym c.in_ok-object.ensures) (plain_is_sound c.args.program.now plain)
+    subst (λ (object : Object). HasSoundFunctions object) (sym c.in_ok-object.ensures) (plain_is_sound c.args.program.now plain)
 
 pub returns-clause-scalars : goal.returns-clause-scalars
 returns-clause-scalars c plain =

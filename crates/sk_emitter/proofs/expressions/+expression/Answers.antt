@@ -2,7 +2,8 @@ use Rattle.std.proofs.Common.{◌≡◌, ◌+◌, ◌∙◌, sym, ap, ◌∷◌,
 use Rattle.std.proofs.lemmas.List.{length-map}
 use Rattle.std.specs.Option.{option_map}
 use Rattle.sk_tree.specs.declared.tree.Expr.{Expr}
-use Rattle.sk_scheme.specs.Scheme.{compiled_of, applied_code, arguments_code, parts_depth, kinds_of}
+use Rattle.sk_scheme.specs.Pieces.{arguments_code, parts_depth}
+use Rattle.sk_scheme.specs.Scheme.{compiled_of, applied_code, kinds_of}
 use Rattle.std.specs.Prelude.{slice_set}
 use Rattle.sk_isa.specs.declared.code.Instr.TheVariants.{Zero, Jump}
 use Rattle.sk_emitter.specs.Names.{slot_of, callee_of, argument_code}
@@ -35,15 +36,15 @@ arguments-loop-i-preserved t c =
     let part = c.index-parts-i.result in
     let first : drop c.loop-i.i c.args.parts.now ≡ part ∷ drop (c.loop-i.i + 1) c.args.parts.now =
     left_cons c.args.parts.now c.loop-i.i part (omega arith) c.index-parts-i.is in
-    let P : List Expr → Type 0 = λ left. max c.loop-i.depth (c.loop-i.i + parts_depth (map compiled_of left)) ≡ parts_depth (map compiled_of c.args.parts.now) in
+    let P : List Expr → Type 0 = λ left. max c.loop-i.depth (c.loop-i.i + parts_depth (map compiled_of left) around) ≡ parts_depth (map compiled_of c.args.parts.now) around in
     let deepest : c.max-depth.result ≡ max c.loop-i.depth c.in_ok-sum.field-0 = search rules in (
       arguments-more kinds c.loop-i.i (c.loop-i.i + 1) (compiled_of part) (map compiled_of (drop (c.loop-i.i + 1) c.args.parts.now)) around
           old c.argument.new.code.items (add-one c.loop-i.i)
           (c.in_ok-own.ensures.code ∙ ap (λ kind. old ++ argument_code kind (compiled_of part) around (length old)) c.kind_at.ensures)
           ∙ ap (λ (left : List Expr). old ++ arguments_code (drop c.loop-i.i kinds) (map compiled_of left) around (length old)) (sym first)
           ∙ c.loop-i.invariant.0,
-      depth_more c.loop-i.depth c.loop-i.i (compiled_of part).depth (parts_depth (map compiled_of (drop (c.loop-i.i + 1) c.args.parts.now)))
-          (parts_depth (map compiled_of c.args.parts.now)) c.max-depth.result
+      depth_more c.loop-i.depth c.loop-i.i ((compiled_of part).depth around) (parts_depth (map compiled_of (drop (c.loop-i.i + 1) c.args.parts.now)) around)
+          (parts_depth (map compiled_of c.args.parts.now) around) c.max-depth.result
           (deepest ∙ ap (λ n. max c.loop-i.depth n) (c.in_ok-sum.ensures ∙ ap (λ n. c.loop-i.i + n) c.in_ok-own.ensures.depth))
           (subst P first c.loop-i.invariant.1),
     )

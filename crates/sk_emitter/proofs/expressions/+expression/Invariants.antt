@@ -1,5 +1,6 @@
 use Rattle.std.proofs.Common.{◌≡◌, ◌++◌, ◌+◌, ◌*◌, drop, map, max, length}
-use Rattle.sk_scheme.specs.Scheme.{compiled_of, arguments_code, parts_depth, kinds_of}
+use Rattle.sk_scheme.specs.Pieces.{arguments_code, parts_depth}
+use Rattle.sk_scheme.specs.Scheme.{compiled_of, kinds_of}
 use Rattle.sk_tree.specs.declared.tree.Expr.{size-Expr}
 use Rattle.sk_emitter.proofs.expressions.+expression.Given as goal
 
@@ -36,4 +37,4 @@ abbrev pub invariant-arguments-loop-i : goal.invariant-arguments-loop-i
 invariant-arguments-loop-i l =
     (l.code.items ++ arguments_code (drop l.i (kinds_of l.params)) (map compiled_of (drop l.i l.parts)) l.names (length l.code.items)
     ≡ l.initial.code.items ++ arguments_code (kinds_of l.params) (map compiled_of l.parts) l.names (length l.initial.code.items))
-    × (max l.depth (l.i + parts_depth (map compiled_of (drop l.i l.parts))) ≡ parts_depth (map compiled_of l.parts))
+    × (max l.depth (l.i + parts_depth (map compiled_of (drop l.i l.parts)) l.names) ≡ parts_depth (map compiled_of l.parts) l.names)

@@ -1,2 +1,3 @@
 pub mod MainNames
 pub mod MainRun
+pub mod MainRunLaws

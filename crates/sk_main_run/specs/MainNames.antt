@@ -1,15 +1,13 @@
 -- What names mean in main.
-use Rattle.std.specs.Prelude.{ℕ, List, [], ◌∷◌, map, take, drop, ℤ, pos, Option, Some, None, Result, Ok, Err, codes}
-use Rattle.sk_base.specs.Shape.{cells_of}
-use Rattle.sk_base.specs.declared.number.Trap.{Trap}
+use Rattle.std.specs.Prelude.{ℕ, List, map, take, drop, ℤ, pos, Option, Some, None, Result, Ok, Err}
 use Rattle.sk_base.specs.declared.number.Ty.{Ty}
 use Rattle.sk_base.specs.declared.number.Ty.TheVariants.{Int}
-use Rattle.sk_meaning.specs.Evaluation.{Callables, Value, value_of, named}
+use Rattle.sk_meaning.specs.Evaluation.{Callables, Value, value_of}
 use Rattle.sk_meaning.specs.Expressions.{Names, meaning_of, values_of}
 use Rattle.sk_names.specs.Bindings.{bound_to}
 use Rattle.sk_tree.specs.declared.tree.Expr.{Expr}
 use Rattle.sk_world.specs.Calls.{Instance, operand_count, call_of}
-use Rattle.sk_world.specs.World.{World, Over, Doing, Trapped, container_at, read, trapped}
+use Rattle.sk_world.specs.World.{World, Over, Doing, Trapped, container_at, read, size_of, valued}
 
 -- what a name of main stands for
 pub data Meant : Type 0 where
@@ -27,11 +25,6 @@ pub record State : Type 0 where
   pub callables : Callables
   pub scope : Scope
   pub world : World
-
--- a value of a user function, or its trap, which stands at element 0
-abbrev pub invoked : Result ℤ Trap → Doing ℤ
-invoked (Ok value) world = Ok (value, world)
-invoked (Err trap) world = trapped trap world
 
 -- the number of the container that a name stands for; a typed program asks for no other name
 abbrev pub number_in : Scope → List ℕ → ℕ
@@ -57,7 +50,7 @@ applied callables scope name (Some (Scalar ty value)) names values = λ world. O
 applied callables scope name (Some (Whole number ty)) names values = read number values
 applied callables scope name (Some (Called instance)) names values = called scope instance names values
 applied callables scope name None names values = elim (bound_to name callables) [
-  | Some callable ↦ invoked (value_of callable (map Value values))
+  | Some callable ↦ valued (value_of callable (map Value values))
   | None ↦ λ world. Ok (pos 0, world)
 ]
 
@@ -67,21 +60,12 @@ scalar_of (Some (Whole number ty)) = (Int, pos 0)
 scalar_of (Some (Called instance)) = (Int, pos 0)
 scalar_of None = (Int, pos 0)
 
--- the methods of a container by its sizes: the number of its elements, and each size where there are several
-abbrev pub size_methods : (sizes : List ℕ) → List (List ℕ)
-size_methods (n ∷ []) = []
-size_methods (rows ∷ columns ∷ []) = codes "total_rows" ∷ codes "total_cols" ∷ []
-size_methods sizes = codes "size_i" ∷ codes "size_j" ∷ codes "size_k" ∷ codes "size_l" ∷ []
-
-abbrev pub method_of : (sizes : List ℕ) → (method : List ℕ) → ℤ
-method_of sizes method = pos (named (codes "size" ∷ size_methods sizes) (cells_of sizes ∷ sizes) method)
-
 -- what names mean where an expression of main stands
 abbrev pub main_names : State → Names World Over
 main_names state = record {
   scalar = λ name. scalar_of (bound_to name state.scope);
   field = λ name field. pos 0;
-  method = λ name method. method_of (container_at state.world (number_in state.scope name)).sizes method;
+  method = λ name method. size_of (container_at state.world (number_in state.scope name)) method;
   applied = λ name. applied_type state.callables name (bound_to name state.scope);
   apply = λ name names values. applied state.callables state.scope name (bound_to name state.scope) names values;
   stop = λ trap world. record { ending = Trapped trap world.line 0; world = world };

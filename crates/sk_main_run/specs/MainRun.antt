@@ -1,5 +1,5 @@
 -- The run of main: its statements over a world.
-use Rattle.std.specs.Prelude.{ℕ, zero, suc, ◌+◌, ◌-◌, if◌then◌else◌, Bool, false, List, [], ◌∷◌, map, reverse, length, take, drop, ℤ, pos, Option, Some, None, Result, Ok, Err, slice_get}
+use Rattle.std.specs.Prelude.{ℕ, zero, suc, ◌+◌, ◌-◌, if◌then◌else◌, Bool, List, [], ◌∷◌, map, reverse, length, take, drop, ℤ, pos, Option, Some, None, Result, Ok, Err, slice_get, unwrap_or}
 use Rattle.std.specs.Fmt.{signed_decimal}
 use Rattle.std.specs.List.{list_all}
 use Rattle.sk_base.specs.Arithmetic.{wrapped}
@@ -11,7 +11,7 @@ use Rattle.sk_names.specs.Bindings.{bound_to, rebound}
 use Rattle.sk_main_run.specs.MainNames.{Meant, Scalar, Whole, Called, Scope, State, number_in, evaluated, all_evaluated}
 use Rattle.sk_safety.specs.Safety.{Judgements, judgements_after, safe_in}
 use Rattle.sk_tree.specs.Functions.{body_of}
-use Rattle.sk_tree.specs.Skeletons.{elements_of}
+use Rattle.sk_tree.specs.Skeletons.{elements_of, operator_place}
 use Rattle.sk_tree.specs.declared.tree.Expr.{Expr}
 use Rattle.sk_tree.specs.declared.tree.Expr.TheVariants.{Name}
 use Rattle.sk_tree.specs.declared.tree.Function.{Function}
@@ -21,14 +21,12 @@ use Rattle.sk_tree.specs.declared.tree.Item.TheVariants.{Value, Text, End as End
 use Rattle.sk_tree.specs.declared.tree.Program.{Program}
 use Rattle.sk_tree.specs.declared.tree.Setting.{Setting}
 use Rattle.sk_tree.specs.declared.tree.Setting.TheVariants as setting
-use Rattle.sk_tree.specs.declared.tree.Skeleton.{Skeleton}
-use Rattle.sk_tree.specs.declared.tree.Skeleton.TheVariants.{MapReduce, MapPairsReduce}
 use Rattle.sk_tree.specs.declared.tree.Statement.{Statement, fold-Statement}
 use Rattle.sk_tree.specs.declared.tree.What.TheOpen.{What-F, Declare, Assign, Poke, Make, Take, Instance, Set, Call, Print, If, For, Return}
 use Rattle.sk_world.specs.Calls.{Instance as Linked, operand_count, call_of}
-use Rattle.sk_world.specs.Events.{Event, Dumped}
 use Rattle.sk_world.specs.InstanceSettings.{SettingValue, Start, Exclusive, Columns, Overlap, Edge, Pad, set_instance}
-use Rattle.sk_world.specs.World.{Container, Input, World, Ending, End, Over, count, print, make, take_input, drop_container, poke, told}
+use Rattle.sk_world.specs.Runs.{ProgramRun, run_over, world_before}
+use Rattle.sk_world.specs.World.{Input, World, End, Over, count, print, make, take_input, drop_container, poke}
 
 -- what is done to a state, unless the run is over
 abbrev pub Running : Type 0
@@ -127,12 +125,6 @@ abbrev pub callable_in : Callables → Option (List ℕ) → Callable
 callable_in callables None = no_callable
 callable_in callables (Some name) = elim (bound_to name callables) [ Some callable ↦ callable | None ↦ no_callable ]
 
--- the operator's place among the functions of an instance
-abbrev pub operator_place : Skeleton → ℕ
-operator_place MapReduce = 1
-operator_place MapPairsReduce = 1
-operator_place skeleton = 0
-
 abbrev pub joined_by : Callable → ℤ → ℤ → Result ℤ Trap
 joined_by operator a b = value_of operator (Argument a ∷ Argument b ∷ [])
 
@@ -147,7 +139,7 @@ linked judgements callables number instance =
       kinds = function.kinds;
       ty = function.ret;
       call = value_of function;
-      join = joined_by (callable_in callables (slice_get instance.functions (operator_place instance.skeleton)));
+      join = joined_by (callable_in callables (slice_get instance.functions (unwrap_or (operator_place instance.skeleton) 0)));
       is_safe = list_all (safe_in judgements) instance.functions;
     }
 
@@ -264,30 +256,11 @@ abbrev pub over_of : Result State Over → Over
 over_of (Ok state) = record { ending = End; world = state.world }
 over_of (Err over) = over
 
--- what a run prints, the containers in scope where it ends, how it ends, and its events
-pub record EagerRun : Type 0 where
-  pub printed : List ℕ
-  pub containers : List Container
-  pub ending : Ending
-  pub events : List Event
-
-abbrev pub run_over : (dump : Bool) → Over → EagerRun
-run_over dump over = record {
-  printed = over.world.printed;
-  containers = over.world.containers;
-  ending = over.ending;
-  events = (if dump then told Dumped over.world else over.world).events;
-}
-
-abbrev pub start_of : List Input → (bound : ℕ) → World
-start_of inputs bound =
-    record { containers = []; settings = []; inputs = inputs; printed = []; statements_left = bound; line = 0; events = [] }
-
 -- The run of a program that may execute so many statements, and may be asked for its containers: its last function is
 -- main, which calls those before it.
-abbrev pub run_of_program : Program → List Input → (bound : ℕ) → (dump : Bool) → EagerRun
+abbrev pub run_of_program : Program → List Input → (bound : ℕ) → (dump : Bool) → ProgramRun
 run_of_program program inputs bound dump =
     let count : ℕ = length program.functions - 1 in
     let before : List Function = take count program.functions in
-    let start : State = record { callables = callables_of before; scope = []; world = start_of inputs bound } in
+    let start : State = record { callables = callables_of before; scope = []; world = world_before inputs bound } in
     run_over dump (over_of (in_sequence (map (running_of (judgements_after [] before)) (body_of (slice_get program.functions count))) none_declared start))

@@ -48,14 +48,14 @@ pub record Start : Type 0 where
   pub from : ℤ
 
 -- what a loop may start with
-abbrev pub start_of : {W S : Type 0} → What-F W S → Option Start
-start_of (Declare ty name expr) = option_map (λ from. record { name = name; ty = ty; from = from }) (literal_of expr)
-start_of what = None
+abbrev pub loop_start : {W S : Type 0} → What-F W S → Option Start
+loop_start (Declare ty name expr) = option_map (λ from. record { name = name; ty = ty; from = from }) (literal_of expr)
+loop_start what = None
 
 -- the scalar that a statement makes greater by one
-abbrev pub step_of : {W S : Type 0} → What-F W S → Option (List ℕ)
-step_of (Assign name expr) = if adds_one name (out-Expr expr) then Some name else None
-step_of what = None
+abbrev pub loop_step : {W S : Type 0} → What-F W S → Option (List ℕ)
+loop_step (Assign name expr) = if adds_one name (out-Expr expr) then Some name else None
+loop_step what = None
 
 -- how far a literal test goes: to a number, which is among those that it holds for or not
 pub record Limit : Type 0 where

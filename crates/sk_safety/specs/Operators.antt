@@ -1,8 +1,6 @@
--- Which functions are associative operators, by a comparison of their trees with a list, and what the operators compute.
-use Rattle.std.specs.Prelude.{ℕ, Bool, true, false, ◌&&◌, if◌then◌else◌, List, [], ◌∷◌, ℤ, ◌+ℤ◌, ◌*ℤ◌, int_lt, Option, Some, None}
+-- Which functions are associative operators, by a comparison of their trees with a list.
+use Rattle.std.specs.Prelude.{ℕ, Bool, true, false, ◌&&◌, if◌then◌else◌, List, [], ◌∷◌, Option, Some, None}
 use Rattle.std.specs.Option.{option_map}
-use Rattle.std.specs.Int.{int_bit_and, int_bit_or, int_bit_xor}
-use Rattle.sk_base.specs.Arithmetic.{wrapped, width_of}
 use Rattle.sk_base.specs.declared.number.Op.{Op}
 use Rattle.sk_base.specs.declared.number.Op.TheVariants as op
 use Rattle.sk_names.specs.Bytes.{same_bytes}
@@ -109,17 +107,3 @@ listed_of function =
     if is_operator function.ret (kinds_of function)
     then option_map (λ kind. record { kind = kind; ty = function.ret }) (kind_in function.params (only_return function.body))
     else None
-
--- what an operator gives for two numbers of its type
-abbrev pub operator_value : Operator → ℤ → ℤ → ℤ
-operator_value operator a b = elim operator.kind [
-  | Add ↦ wrapped operator.ty (a +ℤ b)
-  | Mul ↦ wrapped operator.ty (a *ℤ b)
-  | And ↦ int_bit_and (width_of operator.ty) a b
-  | Or ↦ int_bit_or (width_of operator.ty) a b
-  | Xor ↦ int_bit_xor (width_of operator.ty) a b
-  | Min ↦ if int_lt a b then a else b
-  | Max ↦ if int_lt b a then a else b
-  | First ↦ a
-  | Last ↦ b
-]

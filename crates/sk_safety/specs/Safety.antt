@@ -7,7 +7,7 @@ use Rattle.sk_base.specs.declared.number.Ty.TheVariants.{Int}
 use Rattle.sk_meaning.specs.Evaluation.{kind_type, turn_limit}
 use Rattle.sk_names.specs.Bindings.{bound_to}
 use Rattle.sk_safety.specs.Intervals.{Bounded, Bounds, unbounded, has, bounded_of, subexpressions_of}
-use Rattle.sk_safety.specs.Loops.{Start, Loop, start_of, step_of, loop_of}
+use Rattle.sk_safety.specs.Loops.{Start, Loop, loop_start, loop_step, loop_of}
 use Rattle.sk_tree.specs.declared.tree.Expr.{Expr, Expr-F, out-Expr}
 use Rattle.sk_tree.specs.declared.tree.Expr.TheOpen.{Binary, Apply}
 use Rattle.sk_tree.specs.declared.tree.Function.{Function}
@@ -123,8 +123,8 @@ turns_in what callee = 0
 -- what is said of a statement of a function, its parts being replaced by what is said of them
 abbrev pub walked_step : What-F Walked Walked → Walked
 walked_step what = record {
-  start = start_of what;
-  step = step_of what;
+  start = loop_start what;
+  step = loop_step what;
   assigned = assigned_by what;
   behind = behind_of what;
   places = places_of what;

@@ -32,10 +32,10 @@ both_overlaps None other = None
 both_overlaps (Some one) None = None
 
 -- one overlap is that in both directions
-abbrev pub overlaps_of : List ℤ → Option (ℕ × ℕ)
-overlaps_of [] = None
-overlaps_of (one ∷ []) = both_overlaps (overlap_of one) (overlap_of one)
-overlaps_of (one ∷ other ∷ more) = both_overlaps (overlap_of one) (overlap_of other)
+abbrev pub overlap_pair : List ℤ → Option (ℕ × ℕ)
+overlap_pair [] = None
+overlap_pair (one ∷ []) = both_overlaps (overlap_of one) (overlap_of one)
+overlap_pair (one ∷ other ∷ more) = both_overlaps (overlap_of one) (overlap_of other)
 
 -- the type of the elements that an instance's region has
 abbrev pub region_type : Instance → Ty
@@ -48,7 +48,7 @@ with_setting instance (Start value) settings = Some (record settings { start = S
 with_setting instance (Exclusive exclusive) settings = Some (record settings { exclusive = exclusive })
 with_setting instance (Columns columns) settings = Some (record settings { columns = columns })
 with_setting instance (Overlap values) settings =
-    elim (overlaps_of values) [ Some overlap ↦ Some (record settings { overlap = overlap }) | None ↦ None ]
+    elim (overlap_pair values) [ Some overlap ↦ Some (record settings { overlap = overlap }) | None ↦ None ]
 with_setting instance (Edge edge) settings = Some (record settings { edge = edge })
 with_setting instance (Pad value) settings = Some (record settings { pad = wrapped (region_type instance) value })
 

@@ -1,4 +1,5 @@
 pub mod Calls
 pub mod Events
 pub mod InstanceSettings
+pub mod Runs
 pub mod World

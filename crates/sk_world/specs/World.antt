@@ -1,11 +1,12 @@
 -- What a run of main has and leaves: containers, settings, what was printed, statements left, and what it told.
-use Rattle.std.specs.Prelude.{ℕ, zero, suc, ◌==◌, nat_lt, not, if◌then◌else◌, List, [], ◌∷◌, ◌++◌, replicate, ℤ, pos, Option, Some, None, Result, Ok, Err, filter, find, set, slice_index_or}
+use Rattle.std.specs.Prelude.{ℕ, zero, suc, ◌==◌, nat_lt, not, if◌then◌else◌, List, [], ◌∷◌, ◌++◌, replicate, ℤ, pos, Option, Some, None, Result, Ok, Err, filter, find, set, slice_index_or, codes}
 use Rattle.sk_base.specs.Arithmetic.{wrapped}
 use Rattle.sk_base.specs.Shape.{cells_of, shape_of, flat_of}
 use Rattle.sk_base.specs.declared.number.Trap.{Trap}
 use Rattle.sk_base.specs.declared.number.Trap.TheVariants.{Index, Shape}
 use Rattle.sk_base.specs.declared.number.Ty.{Ty}
 use Rattle.sk_base.specs.declared.number.Ty.TheVariants.{Int}
+use Rattle.sk_meaning.specs.Evaluation.{named}
 use Rattle.sk_names.specs.Bytes.{same_bytes}
 use Rattle.sk_tree.specs.InstanceSettings.{default_settings}
 use Rattle.sk_tree.specs.declared.settings.Settings.{Settings}
@@ -154,3 +155,23 @@ settings_in world instance = elim (find (λ (of : SettingsOf). of.instance == in
 abbrev pub put_settings : (instance : ℕ) → Settings → World → World
 put_settings instance settings world =
     record world { settings = record { instance = instance; settings = settings } ∷ world.settings }
+
+-- the methods of a container by its sizes: the number of its elements, and each size where there are several
+abbrev pub size_methods : (sizes : List ℕ) → List (List ℕ)
+size_methods (n ∷ []) = []
+size_methods (rows ∷ columns ∷ []) = codes "total_rows" ∷ codes "total_cols" ∷ []
+size_methods sizes = codes "size_i" ∷ codes "size_j" ∷ codes "size_k" ∷ codes "size_l" ∷ []
+
+-- the size of a container that a method gives
+abbrev pub size_of : Container → (method : List ℕ) → ℤ
+size_of container method =
+    pos (named (codes "size" ∷ size_methods container.sizes) (cells_of container.sizes ∷ container.sizes) method)
+
+-- a value of a user function, or its trap, which stands at element 0
+abbrev pub valued : Result ℤ Trap → Doing ℤ
+valued (Ok value) world = Ok (value, world)
+valued (Err trap) world = trapped trap world
+
+-- the end of main by its end or by a return
+abbrev pub ended : {A : Type 0} → Doing A
+ended world = Err (record { ending = End; world = world })

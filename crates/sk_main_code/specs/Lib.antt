@@ -1,0 +1,4 @@
+pub mod CallShapes
+pub mod MainSoundness
+pub mod MainSteps
+pub mod Sound

@@ -1,0 +1,3 @@
+pub mod EmittedText
+pub mod MainScheme
+pub mod Objects

@@ -1,0 +1,2 @@
+//! What a whole program is compiled to, main included. Definitions alone: they stand in `specs/`.
+#![tactic(auto)]

@@ -1,6 +1,6 @@
 -- The compiled form of a program of the first form.
-use Rattle.std.proofs.Common.{◌≡◌, ◌∙◌, ℕ, ℤ, pos, List, [], ◌∷◌, refl, sym, ap, arith, subst, true, Bool, Ok, Some, None, Option, Result, ◌<◌, ◌≤◌, slice_get, slice_index, map, rules}
-use Rattle.std.proofs.lemmas.Bool.Decides.{nat_tests}
+use Rattle.std.proofs.Common.{◌≡◌, ◌∙◌, ℕ, zero, suc, ℤ, pos, List, [], ◌∷◌, refl, sym, ap, arith, subst, true, false, Bool, Ok, Some, None, Option, Result, ◌<◌, ◌≤◌, slice_get, slice_index, map, rules}
+use Rattle.std.proofs.lemmas.Bool.{eqb-true}
 use Rattle.std.proofs.lemmas.List.Elements.{All-cons, All-nil}
 use Rattle.std.specs.Prelude.{All, IsSome, int_le, unwrap_or}
 use Rattle.sk_base.specs.Arithmetic.{InRange}
@@ -9,6 +9,7 @@ use Rattle.sk_names.specs.BytesLaws.{same_bytes-same}
 use Rattle.sk_names.specs.BindingsLaws.{bound_to-here}
 use Rattle.sk_meaning.specs.Evaluation.{Value, value_only, turn_limit, callable_of, callables_of, apply_of}
 use Rattle.sk_names.specs.Bytes.{same_bytes}
+use Rattle.sk_tree.specs.InstanceSettings.{default_settings}
 use Rattle.sk_tree.specs.declared.tree.Expr.TheVariants as expression
 use Rattle.sk_tree.specs.declared.tree.Function.{Function}
 use Rattle.sk_tree.specs.declared.tree.ParamKind.TheVariants.{Scalar}
@@ -21,11 +22,13 @@ use Rattle.sk_plain.specs.Means.{MeansSource}
 use Rattle.sk_plain.specs.Plain.{IsPlain, IsPlainFunction, ArePlain, Plainness, is_plain_expression, plain_expression_step, plainness_of, plainness_step, returns_of, returns_step}
 use Rattle.sk_plain.specs.PlainLaws.{plain-Number, plain-Name, plain-Binary, plainness-statement, plainness-roll, returns-statement, returns-roll}
 use Rattle.sk_isa.specs.Coded.{function_of}
-use Rattle.sk_isa.specs.Instances.{instance_meaning, signature_at}
-use Rattle.sk_isa.specs.Kernels.{Meaning}
+use Rattle.sk_arguments.specs.Arguments.{Reading, element_index, reads_kind}
+use Rattle.sk_kernel.specs.Instances.{instance_meaning, reading_of}
+use Rattle.sk_isa.specs.Objects.{signature_at}
+use Rattle.sk_kernel.specs.Kernels.{Meaning, place_in}
 use Rattle.sk_scheme.specs.Plans.{functions_object, functions_before_main, plan_of, plans_in}
 use Rattle.sk_scheme.specs.Scheme.{Known, known_functions}
-use Rattle.sk_isa.specs.Soundness.{IsSoundPlan}
+use Rattle.sk_isa.specs.SoundObjects.{IsSoundPlan}
 use Rattle.sk_isa.specs.declared.object.Object.{Object}
 use Rattle.sk_isa.specs.declared.object.Plan.{Plan}
 use Rattle.sk_first.specs.FirstForm.{Holes, AreFine, first_tree, first_function, first_main, at_line, op_of}
@@ -79,6 +82,7 @@ first-plan-sound h lines = record {
   first = record { ordered = refl; kinds = refl; elements = refl };
   operator = λ place is. let no : ⊥ = cc in absurd no;
   sequential = search rules;
+  offered = search rules;
 }
 
 pub first-plain : (h : Holes) (lines : List ℕ) → AreFine h → IsPlain (first_tree h lines)
@@ -89,14 +93,28 @@ first-plain h lines fine = record {
       subst (All Is) (sym (first-plans h lines)) (All-cons Is (first_plan h) [] (first-plan-sound h lines) (All-nil Is));
 }
 
+-- the function reads its element alone
+first-reads : (reading : Reading) (shapes : List (List ℕ)) (place operand index : ℕ) → reading.pairs ≡ false
+    → elim (slice_get (Scalar Int ∷ []) operand) [
+      | Some kind ↦ reads_kind reading (unwrap_or (slice_get shapes operand) []) (record { place = place; pair = 0 }) operand kind index
+      | None ↦ false
+    ] ≡ true
+    → (operand ≡ 0) × (index ≡ place)
+first-reads reading shapes place zero index places reads =
+    (refl, eqb-true index (element_index reading (record { place = place; pair = 0 }) 0) reads ∙ ap (λ (pairs : Bool). place_in pairs place 0 0) places)
+first-reads reading shapes place (suc operand) index places reads = cc
+
 -- the instance gives each element of a vector of equal cells the function's value
 pub first-maps : (h : Holes) (lines : List ℕ) (object : Object) → AreFine h → object ≡ functions_object (first_tree h lines)
-    → MeansSource (first_tree h lines) object → MapsEqualCells (instance_meaning object (first_plan h)) h.size (pos h.fill) (element_in h)
+    → MeansSource (first_tree h lines) object → MapsEqualCells (instance_meaning object (first_plan h) default_settings) h.size (pos h.fill) (element_in h)
 first-maps h lines object fine is means = record {
   operands = rw is refl;
   uniforms = rw is refl;
-  over = refl;
-  reads = λ place operand index reads. grind (arith, nat_tests);
+  over = rw is refl;
+  pairs = refl;
+  reads = λ place operand index reads.
+      let params : (signature_at object 0).params ≡ Scalar Int ∷ [] = rw is refl in
+      first-reads (reading_of (first_plan h) default_settings) ((h.size ∷ []) ∷ []) place operand index refl (rw params at reads);
   in_range = record { sfits = let f = fine.fill in omega arith };
   gives = λ place below.
       let params : (signature_at object 0).params ≡ Scalar Int ∷ [] = rw is refl in
@@ -109,7 +127,7 @@ first-maps h lines object fine is means = record {
 -- a kernel of the program's instance runs it
 pub first-run : (h : Holes) (lines : List ℕ) (object : Object) (plan : Plan) (meaning : Meaning) (parts : Parts) → AreFine h → parts ≡ parts_in h
     → object ≡ functions_object (first_tree h lines) → MeansSource (first_tree h lines) object
-    → slice_get object.instances 0 ≡ Some plan → meaning ≡ instance_meaning object plan → IsFirstRun meaning parts h
+    → slice_get object.instances 0 ≡ Some plan → meaning ≡ instance_meaning object plan default_settings → IsFirstRun meaning parts h
 first-run h lines object plan meaning parts fine are is means there meant =
     let planned : plan ≡ first_plan h =
     ap (λ (o : Option Plan). unwrap_or o (first_plan h)) (sym there ∙ ap (λ (x : Object). slice_get x.instances 0) is ∙ ap (λ (plans : List Plan). slice_get plans 0) (first-plans h lines)) in
@@ -117,5 +135,5 @@ first-run h lines object plan meaning parts fine are is means there meant =
       fine = fine;
       parts_are = are;
       maps = subst (λ (m : Meaning). MapsEqualCells m h.size (pos h.fill) (element_in h))
-          (sym (meant ∙ ap (instance_meaning object) planned)) (first-maps h lines object fine is means);
+          (sym (meant ∙ ap (λ (p : Plan). instance_meaning object p default_settings) planned)) (first-maps h lines object fine is means);
     }

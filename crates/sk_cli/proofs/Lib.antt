@@ -1,9 +1,10 @@
 pub mod AnswerLemmas
 pub mod AskedLemmas
-pub mod EagerFirst
+pub mod FirstCall
 pub mod FirstFunction
 pub mod FirstObject
 pub mod FirstStatements
+pub mod MainFirst
 pub mod PartsLemmas
 pub mod RanLemmas
 pub mod VectorLemmas

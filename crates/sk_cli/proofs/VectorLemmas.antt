@@ -1,22 +1,27 @@
 -- A vector of equal cells suits an instance that takes one vector by elements.
 use Rattle.std.proofs.Common.{◌≡◌, to_z, of_z, w64, Result, ◌∙◌, ℕ, ◌<◌, ◌≤◌, ◌^◌, ℤ, pos, List, [], ◌∷◌, sym, ap, subst, arith, rules, true, Some, None, Option, replicate, zero, suc, refl, Ok, slice_get}
-use Rattle.std.specs.Prelude.{IsSomeAnd, All}
+use Rattle.std.specs.Prelude.{IsSomeAnd, All, nat_lt}
 use Rattle.std.specs.Result.{result_unwrap_or}
 use Rattle.sk_base.specs.Arithmetic.{InRange}
 use Rattle.sk_base.specs.declared.number.Trap.{Trap}
-use Rattle.sk_base.specs.Shape.{IsShape, shape_of}
+use Rattle.sk_base.specs.Shape.{IsShape, cells_of, shape_of}
 use Rattle.sk_base.specs.declared.number.Ty.TheVariants.{Int}
 use Rattle.sk_tree.specs.declared.tree.ParamKind.{ParamKind}
-use Rattle.sk_isa.specs.Kernels.{Meaning, Source, Suits, Agree, given_by, SuitKinds, AreOfTypes, SuitsOver, operand_type}
+use Rattle.sk_kernel.specs.Kernels.{Meaning, Source, Suits, Agree, given_by, SuitKinds, AreOfTypes, SuitsOver, operand_type, place_in}
+use Rattle.std.proofs.lemmas.Bool.{lt-ltb}
 use Rattle.std.proofs.lemmas.Int.{to_z-of_z}
 use Rattle.sk_cli.proofs.FirstStatements.{shape_of-one}
-use Rattle.sk_isa.specs.Vectors.{vector_source}
+use Rattle.sk_kernel.specs.Vectors.{vector_source}
 use Rattle.sk_cli.specs.VectorMap.{MapsEqualCells}
 
 held-equal : (size place : ℕ) (fill : ℤ) → place < size → slice_get (replicate size fill) place ≡ Some fill
 held-equal zero place fill below = elim below [ ]
 held-equal (suc size) zero fill below = refl
 held-equal (suc size) (suc place) fill below = held-equal size place fill (omega arith)
+
+-- the place lies in the vector
+inside : (size place : ℕ) → place < size → nat_lt place (cells_of (size ∷ [])) ≡ true
+inside size place below = lt-ltb place (cells_of (size ∷ [])) (omega arith)
 
 vector-shape : (size : ℕ) → size ≤ 2 ^ 24 → IsShape (size ∷ [])
 vector-shape size small = record { some = omega arith; few = omega arith; each = search rules; product = omega arith }
@@ -25,18 +30,19 @@ pub vector-agrees : (meaning : Meaning) (size place : ℕ) (fill value : ℤ) �
     → Agree meaning (vector_source (replicate size fill) (size ∷ []) []) place 0 (λ operand index. fill)
 vector-agrees meaning size place fill value maps below operand index reads =
     let at = maps.reads place operand index reads in
-    rw (at.0, at.1) (held-equal size place fill below)
+    rw (at.0, at.1, inside size place below) (held-equal size place fill below)
 
 pub vector-suits : (meaning : Meaning) (size place : ℕ) (fill value : ℤ) → MapsEqualCells meaning size fill value → place < size → size ≤ 2 ^ 24
     → Suits meaning (vector_source (replicate size fill) (size ∷ []) []) place 0
 vector-suits meaning size place fill value maps below small = record {
-  operands = subst (λ kinds. SuitKinds kinds ((size ∷ []) ∷ [])) (sym maps.operands) (vector-shape size small, record {});
+  operands = subst (λ kinds. SuitKinds kinds ((size ∷ []) ∷ []) (place_in meaning.pairs place 0)) (sym maps.operands)
+      ((vector-shape size small, subst (λ pairs. place_in pairs place 0 0 < cells_of (size ∷ [])) (sym maps.pairs) (omega arith)), record {});
   uniforms = subst (λ types. AreOfTypes types []) (sym maps.uniforms) (record {});
   over = subst (λ over. SuitsOver over (Some (size ∷ [])) place) (sym maps.over) (record {});
   held = λ operand index reads.
       let at = maps.reads place operand index reads in
       let cell : slice_get (replicate size fill) place ≡ Some fill = held-equal size place fill below in
-      rw (at.0, at.1, maps.operands, cell) maps.in_range;
+      rw (at.0, at.1, inside size place below, maps.operands, cell) maps.in_range;
 }
 
 -- the same of a kernel, cells and sizes that are known to be these

@@ -1,26 +1,63 @@
 -- What a command answers.
-use Rattle.std.specs.Prelude.{◌≡◌, ◌⊎◌, ℕ, ◌^◌, ◌<◌, ◌≤◌, List, [], ◌∷◌, ◌++◌, length, Option, Some, None, if◌then◌else◌, codes, IsSomeAnd}
+use Rattle.std.specs.Prelude.{◌≡◌, ◌⊎◌, ℕ, ◌^◌, ◌<◌, ◌≤◌, List, [], ◌∷◌, ◌++◌, length, Contains, Option, Some, None, if◌then◌else◌, false, codes}
 use Rattle.std.specs.Fmt.{decimal}
+use Rattle.std.specs.Io.KnownBytes.{Appends}
 use Rattle.sk_base.specs.declared.number.Trap.{Trap as TrapKind}
 use Rattle.sk_base.specs.declared.number.Trap.TheVariants.{Divide, Index, Turns, Shape, Empty}
-use Rattle.std.specs.Io.KnownBytes.{Appends}
+use Rattle.sk_first.specs.FirstForm.{IsFirst, IsNotFirst}
+use Rattle.sk_main_run.specs.MainRun.{run_of_program}
+use Rattle.sk_names.specs.Bytes.{same_bytes}
 use Rattle.sk_outside.specs.Faults.{Faults, Rose}
 use Rattle.sk_outside.specs.Holding.{Contents, Tells, SinkHolding, AppendsPrefix}
-use Rattle.sk_first.specs.FirstForm.{IsFirst, IsNotFirst}
-use Rattle.sk_eager.specs.Eager.{Ending, End, Trapped, Bound, EagerRun, eager_of}
-use Rattle.sk_names.specs.Bytes.{same_bytes}
 use Rattle.sk_tree.specs.declared.tree.Program.{Program}
+use Rattle.sk_world.specs.Runs.{ProgramRun}
+use Rattle.sk_world.specs.World.{Container, Ending, End, Trapped, Bound}
 
--- the status of a call, the bytes that it prints, and the line that it puts on the error stream, if any
+-- ---- what is asked
+
+-- a run: the file of its source, how many statements it may execute, and the file that its containers go to, if any
+pub record RunCommand : Type 0 where
+  pub source : List ℕ
+  pub bound : ℕ
+  pub dump : Option (List ℕ)
+
+-- what words ask for
+pub data Command : Type 0 where
+  Usage : Command
+  Run : RunCommand → Command
+
+-- how many statements a run may execute, where the words do not say it
+abbrev pub statement_limit : ℕ
+statement_limit = 1000000
+
+-- the run of a file, where nothing else is asked for
+abbrev pub run_of_file : (name : List ℕ) → RunCommand
+run_of_file name = record { source = name; bound = statement_limit; dump = None }
+
+-- The words `run` and a name ask to run the file of that name. No other words ask for anything yet.
+abbrev pub asked_of : (words : List (List ℕ)) → Command
+asked_of (command ∷ name ∷ []) =
+    if same_bytes command (codes "run") then Run (run_of_file name) else Usage
+asked_of words = Usage
+
+-- the files that a command is given to read, and to write
+abbrev pub reads_in : Command → List (List ℕ)
+reads_in Usage = []
+reads_in (Run run) = run.source ∷ []
+
+abbrev pub writes_in : Command → List (List ℕ)
+writes_in Usage = []
+writes_in (Run run) = elim run.dump [ Some name ↦ name ∷ [] | None ↦ [] ]
+
+-- ---- what is answered
+
+-- the status of a call, the bytes that it prints, the line that it puts on the error stream, if any, and the containers that
+-- go to a file, if any
 pub record Answer : Type 0 where
   pub status : ℕ
   pub printed : List ℕ
   pub line : List ℕ
-
--- the file that the words ask to run: they are `run` and its name
-abbrev pub asked_of : (words : List (List ℕ)) → Option (List ℕ)
-asked_of (command ∷ name ∷ []) = if same_bytes command (codes "run") then Some name else None
-asked_of words = None
+  pub dumped : Option (List ℕ × List Container)
 
 -- what the bytes of a source are: too many, no program, or a program
 pub data Reading : Type 0 where
@@ -39,11 +76,7 @@ IsReading source (Read program) = (length source ≤ source_limit) × IsFirst so
 
 -- an answer that prints nothing
 abbrev pub refused : ℕ → List ℕ → Answer
-refused status line = record { status = status; printed = []; line = line }
-
--- how many statements a run may execute
-abbrev pub statement_limit : ℕ
-statement_limit = 1000000
+refused status line = record { status = status; printed = []; line = line; dumped = None }
 
 abbrev pub trap_word : TrapKind → List ℕ
 trap_word Divide = codes "divide"
@@ -56,31 +89,63 @@ abbrev pub trap_line : TrapKind → (line element : ℕ) → List ℕ
 trap_line trap line element =
     codes "trap " ++ trap_word trap ++ codes " line " ++ decimal line ++ codes " element " ++ decimal element ++ codes "\n"
 
--- the answer to a run with this end
-abbrev pub ended : Ending → (printed : List ℕ) → Answer
-ended End printed = record { status = 0; printed = printed; line = [] }
-ended (Trapped trap line element) printed = record { status = 3; printed = printed; line = trap_line trap line element }
-ended Bound printed = record { status = 4; printed = printed; line = codes "bound " ++ decimal statement_limit ++ codes "\n" }
+-- the status of a run by its end, and the line that tells it
+abbrev pub ended_status : Ending → ℕ
+ended_status End = 0
+ended_status (Trapped trap line element) = 3
+ended_status Bound = 4
 
-abbrev pub ran : EagerRun → Answer
-ran run = ended run.ending run.printed
+abbrev pub ended_line : (bound : ℕ) → Ending → List ℕ
+ended_line bound End = []
+ended_line bound (Trapped trap line element) = trap_line trap line element
+ended_line bound Bound = codes "bound " ++ decimal bound ++ codes "\n"
 
--- the answer to a source
-abbrev pub answer_of : Reading → Answer
-answer_of TooLong = refused 1 (codes "refused long\n")
-answer_of NoProgram = refused 1 (codes "refused later\n")
-answer_of (Read program) = ran (eager_of program statement_limit)
+-- the answer to a run of a program
+abbrev pub ran : RunCommand → ProgramRun → Answer
+ran command run = record {
+  status = ended_status run.ending;
+  printed = run.printed;
+  line = ended_line command.bound run.ending;
+  dumped = elim command.dump [ Some name ↦ Some (name, run.containers) | None ↦ None ];
+}
 
--- The answer, where the files have these contents: to a name it is that to the file's bytes, which are those that the
--- files tell, where they tell them.
-abbrev pub IsAnswerTo : (asked : Option (List ℕ)) → Option Contents → Answer → Type 0
-IsAnswerTo None contents answer = answer ≡ refused 2 (codes "usage\n")
-IsAnswerTo (Some name) contents answer =
-    (source : List ℕ) × Tells contents name source × (reading : Reading) × IsReading source reading × (answer ≡ answer_of reading)
+-- What a call does to the outside, one step after another: it answers, or it reads a file and goes on with its bytes, or it
+-- finds what a source is and goes on with that. So a later file is looked at only where nothing was refused before.
+pub data Chain : Type 0 where
+  Answers : Answer → Chain
+  Reads : (name : List ℕ) → (List ℕ → Chain) → Chain
+  Parses : (source : List ℕ) → (Reading → Chain) → Chain
+
+-- a run without inputs, which is what a program of the first form needs
+abbrev pub after_reading : RunCommand → Reading → Chain
+after_reading command TooLong = Answers (refused 1 (codes "refused long\n"))
+after_reading command NoProgram = Answers (refused 1 (codes "refused later\n"))
+after_reading command (Read program) = Answers (ran command (run_of_program program [] command.bound false))
+
+-- the chain behind the bytes of the source
+abbrev pub after_source : RunCommand → (source : List ℕ) → Chain
+after_source command source = Parses source (after_reading command)
+
+abbrev pub chain_of : Command → Chain
+chain_of Usage = Answers (refused 2 (codes "usage\n"))
+chain_of (Run command) = Reads command.source (after_source command)
+
+-- The answer at the end of a chain, where the files have these contents: the bytes of a file are those that the files tell,
+-- where they tell them.
+abbrev pub IsAnswerBy : Option Contents → Chain → Answer → Type 0
+IsAnswerBy contents (Answers answer) given = given ≡ answer
+IsAnswerBy contents (Reads name next) given = (bytes : List ℕ) × Tells contents name bytes × IsAnswerBy contents (next bytes) given
+IsAnswerBy contents (Parses source next) given = (reading : Reading) × IsReading source reading × IsAnswerBy contents (next reading) given
+
+-- the answer to the bytes of a file that is run, whatever its name is and whatever the files tell
+abbrev pub IsAnswerToBytes : (source : List ℕ) → Answer → Type 0
+IsAnswerToBytes source answer = (contents : Option Contents) (name : List ℕ) → IsAnswerBy contents (after_source (run_of_file name) source) answer
 
 -- the answer to words
 abbrev pub IsAnswer : (words : List (List ℕ)) → Option Contents → Answer → Type 0
-IsAnswer words contents answer = IsAnswerTo (asked_of words) contents answer
+IsAnswer words contents = IsAnswerBy contents (chain_of (asked_of words))
+
+-- ---- what is left outside
 
 -- what a call leaves of a sink: it took the bytes
 abbrev pub Took : (bytes : List ℕ) → (before now : SinkHolding) → Type 0
@@ -100,32 +165,51 @@ pub record Gives (answer : Answer) (given : ℕ) (out out' err err' : SinkHoldin
   pub printed : Took answer.printed out out'
   pub told : Told answer.line err err'
 
--- nothing was printed, or a prefix of what an answer prints
-abbrev pub CutShort : (Answer → Type 0) → (out out' : SinkHolding) → Type 0
-CutShort IsAnswer out out' = Took [] out out' ⊎ ((answer : Answer) × IsAnswer answer × TookPrefix answer.printed out out')
+-- a prefix of what the answer prints was printed
+abbrev pub PrintsPart : (Answer → Type 0) → (out out' : SinkHolding) → Type 0
+PrintsPart IsAnswer out out' = (answer : Answer) × IsAnswer answer × TookPrefix answer.printed out out'
 
 abbrev pub read_fault_line : List ℕ → List ℕ
 read_fault_line name = codes "read fault " ++ name ++ codes "\n"
 
--- a read of the file that the words ask for has failed in this call, nothing was printed, and the line says so
-pub record IsReadFault (name : List ℕ) (reads reads' : Faults) (out out' err err' : SinkHolding) : Type 0 where
+abbrev pub write_fault_line : List ℕ
+write_fault_line = codes "write fault output\n"
+
+abbrev pub memory_line : List ℕ
+memory_line = codes "memory\n"
+
+-- A read has failed in this call, of a file that the command is given to read.
+pub record HasReadFault (command : Command) (name : List ℕ) (reads reads' : Faults) : Type 0 where
   pub rose : Rose reads.count reads'.count
   pub named : reads'.name ≡ Some name
+  pub given : Contains (reads_in command) name
+
+-- such a read has failed, nothing was printed, and the line says so
+pub record IsReadFault (command : Command) (reads reads' : Faults) (out out' err err' : SinkHolding) : Type 0 where
+  pub name : List ℕ
+  pub failed : HasReadFault command name reads reads'
   pub silent : Took [] out out'
   pub told : Told (read_fault_line name) err err'
 
 -- a put on the output has failed in this call, and the line says so
 pub record IsWriteFault (out out' err err' : SinkHolding) : Type 0 where
   pub rose : Rose out.faults out'.faults
-  pub told : Told (codes "write fault output\n") err err'
+  pub told : Told write_fault_line err err'
 
--- The lines that a call may begin to tell where memory is wanting: that of the want itself, that of an answer, and those
--- of a fault.
-abbrev pub IsLine : (asked : Option (List ℕ)) → (Answer → Type 0) → (line : List ℕ) → Type 0
-IsLine asked IsAnswer line =
-    (line ≡ codes "memory\n") ⊎ (line ≡ codes "write fault output\n") ⊎ IsSomeAnd asked (λ name. line ≡ read_fault_line name)
-    ⊎ ((answer : Answer) × IsAnswer answer × (line ≡ answer.line))
+-- Where memory was wanting before the answer was known: nothing was printed, and the error stream took a prefix of the line
+-- of the want, or of a read that has failed in this call.
+pub record IsWantBefore (command : Command) (reads reads' : Faults) (out out' err err' : SinkHolding) : Type 0 where
+  pub silent : Took [] out out'
+  pub told : TookPrefix memory_line err err' ⊎ ((name : List ℕ) × HasReadFault command name reads reads' × TookPrefix (read_fault_line name) err err')
 
--- the error stream took a prefix of one of them
-abbrev pub ToldShort : (asked : Option (List ℕ)) → (Answer → Type 0) → (err err' : SinkHolding) → Type 0
-ToldShort asked IsAnswer err err' = (line : List ℕ) × IsLine asked IsAnswer line × TookPrefix line err err'
+-- Where it was wanting with the answer: a prefix of its bytes was printed, and the error stream took a prefix of the line of
+-- the want, of the answer's own, or of a put that has failed in this call.
+pub record IsWantWith (answer : Answer) (out out' err err' : SinkHolding) : Type 0 where
+  pub printed : TookPrefix answer.printed out out'
+  pub told : TookPrefix memory_line err err' ⊎ TookPrefix answer.line err err'
+      ⊎ (Rose out.faults out'.faults × TookPrefix write_fault_line err err')
+
+-- memory was wanting
+abbrev pub IsWant : Command → (Answer → Type 0) → (reads reads' : Faults) → (out out' err err' : SinkHolding) → Type 0
+IsWant command IsAnswer reads reads' out out' err err' =
+    IsWantBefore command reads reads' out out' err err' ⊎ ((answer : Answer) × IsAnswer answer × IsWantWith answer out out' err err')

@@ -1,11 +1,12 @@
 -- Programs of the first form as trees.
-use Rattle.std.specs.Prelude.{◌≡◌, ℕ, List, [], ◌∷◌, ℤ, pos, ◌+ℤ◌, ◌-ℤ◌, ◌*ℤ◌}
+use Rattle.std.specs.Prelude.{◌≡◌, ℕ, List, [], ◌∷◌, false, ℤ, pos, ◌+ℤ◌, ◌-ℤ◌, ◌*ℤ◌}
 use Rattle.sk_base.specs.Arithmetic.{wrapped}
 use Rattle.sk_base.specs.declared.number.Op.{Op}
 use Rattle.sk_base.specs.declared.number.Ty.TheVariants.{Int}
 use Rattle.sk_first.specs.FirstForm.{Holes, AreFine, op_of, first_tree, at_line}
 use Rattle.sk_first.specs.declared.holes.Operator.{Operator}
 use Rattle.sk_first.specs.declared.holes.Operator.TheVariants.{Plus, Minus, Times}
+use Rattle.sk_main_run.specs.MainRun.{run_of_program}
 use Rattle.sk_tree.specs.declared.tree.Expr.{Expr}
 use Rattle.sk_tree.specs.declared.tree.Expr.TheVariants.{Number, Name, Binary, Apply}
 use Rattle.sk_tree.specs.declared.tree.Item.{Item}
@@ -13,10 +14,15 @@ use Rattle.sk_tree.specs.declared.tree.Item.TheVariants.{Value, End}
 use Rattle.sk_tree.specs.declared.tree.Program.{Program}
 use Rattle.sk_tree.specs.declared.tree.Statement.{Statement}
 use Rattle.sk_tree.specs.declared.tree.What.TheVariants.{Make, Print}
+use Rattle.sk_cli.specs.Answer.{statement_limit}
 
 -- the tree is that of some holes
 abbrev pub IsFirstProgram : Program → Type 0
 IsFirstProgram program = (holes : Holes) × (lines : List ℕ) × AreFine holes × (program ≡ first_tree holes lines)
+
+-- what its run prints, which is given no inputs
+unfoldable pub output_of : Program → List ℕ
+output_of program = (run_of_program program [] statement_limit false).printed
 
 -- what the function returns
 abbrev pub operation_in : Holes → Expr

@@ -1,6 +1,6 @@
 -- The run of a program of the first form by a kernel.
 use Rattle.std.specs.Prelude.{◌≡◌, pos}
-use Rattle.sk_isa.specs.Kernels.{Meaning}
+use Rattle.sk_kernel.specs.Kernels.{Meaning}
 use Rattle.sk_first.specs.FirstForm.{Holes, AreFine}
 use Rattle.sk_cli.specs.FirstProgram.{element_in}
 use Rattle.sk_cli.specs.Parts.{parts_in}

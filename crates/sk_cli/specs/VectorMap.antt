@@ -1,9 +1,10 @@
 -- A Map over a vector whose cells are all equal.
-use Rattle.std.specs.Prelude.{◌≡◌, ℕ, ◌<◌, List, [], ◌∷◌, ℤ, true, Some, None, Ok}
+use Rattle.std.specs.Prelude.{◌≡◌, ℕ, ◌<◌, List, [], ◌∷◌, ℤ, true, false, Some, None, Ok}
 use Rattle.sk_base.specs.declared.number.Ty.TheVariants.{Int}
 use Rattle.sk_base.specs.Arithmetic.{InRange}
 use Rattle.sk_tree.specs.declared.tree.ParamKind.TheVariants.{Scalar}
-use Rattle.sk_isa.specs.Kernels.{Given, Meaning}
+use Rattle.sk_arguments.specs.Arguments.{Given}
+use Rattle.sk_kernel.specs.Kernels.{Meaning}
 
 -- a vector of equal cells as the operand of a call whose result is as long
 abbrev pub equal_cells : (size : ℕ) → (fill : ℤ) → Given
@@ -15,6 +16,7 @@ pub record MapsEqualCells (meaning : Meaning) (size : ℕ) (fill value : ℤ) : 
   pub operands : meaning.operands ≡ Scalar Int ∷ []
   pub uniforms : meaning.uniforms ≡ []
   pub over : meaning.over ≡ None
+  pub pairs : meaning.pairs ≡ false
   pub reads : (place operand index : ℕ) → meaning.reads ((size ∷ []) ∷ []) place 0 operand index ≡ true → (operand ≡ 0) × (index ≡ place)
   pub in_range : InRange Int fill
   pub gives : (place : ℕ) → place < size → meaning.value (equal_cells size fill) place 0 ≡ Ok value

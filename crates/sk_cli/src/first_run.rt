@@ -4,9 +4,7 @@ ghost use Rattle.std.specs.Fmt.{signed_decimal};
 ghost use Rattle.std.specs.Io.KnownBytes.{Appends};
 ghost use Rattle.sk_outside.specs.Faults.{Rose};
 ghost use Rattle.sk_outside.specs.Holding.{AppendsPrefix};
-ghost use Rattle.sk_eager.specs.Eager.{eager_of};
-ghost use Rattle.sk_cli.specs.Answer.{statement_limit};
-ghost use Rattle.sk_cli.specs.FirstProgram.{IsFirstProgram, element_in};
+ghost use Rattle.sk_cli.specs.FirstProgram.{IsFirstProgram, element_in, output_of};
 ghost use Rattle.sk_cli.specs.FirstRun.{IsFirstRun};
 ghost use Rattle.sk_first.specs.FirstForm.{Holes};
 
@@ -15,7 +13,7 @@ use crate::vector_map::mapped;
 use itoa::Buffer;
 use sk_base::Cell;
 use sk_codegen::plain;
-use sk_isa::Kernel;
+use sk_kernel::Kernel;
 use sk_outside::{Sink, WriteAnswer};
 use sk_tree::Program;
 use sk_vm::Coded;
@@ -44,7 +42,7 @@ fn printed_by<K: Kernel>(alloc: Global, kernel: &mut K, parts: Parts) -> Result<
 /// What the run of a program of the first form prints.
 fn printed(alloc: Global, program: &Program) -> Result<Vec<u8>, AllocError>
     requires { IsFirstProgram program.now }
-    ensures { IfOk result (λ bytes. bytes.items ≡ (eager_of program.now statement_limit).printed) }
+    ensures { IfOk result (λ bytes. bytes.items ≡ output_of program.now) }
 {
     let Some(parts) = parts_of(program) else {
         unreachable!()
@@ -57,10 +55,8 @@ fn printed(alloc: Global, program: &Program) -> Result<Vec<u8>, AllocError>
 /// Runs a program of the first form: prints what it prints, or a prefix of that.
 pub fn run_first<O: Sink>(alloc: Global, program: &Program, out: &mut O) -> Result<(), WriteAnswer>
     requires { IsFirstProgram program.now }
-    ensures printed { OnOk result (Appends (O.holds out.old).taken (O.holds out.new).taken
-        (eager_of program.now statement_limit).printed) }
-    ensures prefix { OnErr result (AppendsPrefix (O.holds out.old).taken (O.holds out.new).taken
-        (eager_of program.now statement_limit).printed) }
+    ensures printed { OnOk result (Appends (O.holds out.old).taken (O.holds out.new).taken (output_of program.now)) }
+    ensures prefix { OnErr result (AppendsPrefix (O.holds out.old).taken (O.holds out.new).taken (output_of program.now)) }
     ensures rose { IsErrOf result WriteAnswer.Failed → Rose (O.holds out.old).faults (O.holds out.new).faults }
     ensures steady { IsErrOf result WriteAnswer.Failed ⊎ ((O.holds out.new).faults ≡ (O.holds out.old).faults) }
     ensures later { (O.holds out.old).faults ≤ (O.holds out.new).faults }

@@ -1,6 +1,6 @@
 //! Lines on the error stream.
 ghost use Rattle.std.specs.Prelude.{◌≡◌, ◌⊎◌, IfOk};
-ghost use Rattle.sk_cli.specs.Answer.{Told, TookPrefix};
+ghost use Rattle.sk_cli.specs.Answer.{Told, TookPrefix, memory_line, write_fault_line};
 ghost use Rattle.sk_cli.specs.Answer as answer;
 
 use sk_outside::{Sink, WriteAnswer};
@@ -19,6 +19,22 @@ pub fn tell<E: Sink>(alloc: Global, err: &mut E, line: &[u8], status: u8) -> u8
         Ok(()) | Err(WriteAnswer::Failed) => status,
         Err(WriteAnswer::Memory) => WANT_OF_MEMORY,
     }
+}
+
+/// Tells that memory was wanting, and answers its status.
+pub fn tell_want<E: Sink>(alloc: Global, err: &mut E) -> u8
+    ensures status { result ≡ WANT_OF_MEMORY }
+    ensures prefix { TookPrefix memory_line (E.holds err.old) (E.holds err.new) }
+{
+    tell(alloc, err, b"memory\n", WANT_OF_MEMORY)
+}
+
+/// Tells that the output was not written.
+pub fn tell_write_fault<E: Sink>(alloc: Global, err: &mut E, status: u8) -> u8
+    ensures told { (result ≡ WANT_OF_MEMORY) ⊎ ((result ≡ status) × Told write_fault_line (E.holds err.old) (E.holds err.new)) }
+    ensures prefix { TookPrefix write_fault_line (E.holds err.old) (E.holds err.new) }
+{
+    tell(alloc, err, b"write fault output\n", status)
 }
 
 /// Tells which file was not read.

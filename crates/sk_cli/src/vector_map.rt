@@ -1,10 +1,10 @@
 //! A Map over a vector.
 ghost use Rattle.std.specs.Prelude.{◌≡◌, ◌≤◌, ◌^◌, ℕ, ℤ, Ok, IfOk, IsOk, replicate};
-ghost use Rattle.sk_isa.specs.Kernels.{Suits, Agree, given_by};
+ghost use Rattle.sk_kernel.specs.Kernels.{Suits, Agree, given_by};
 ghost use Rattle.sk_cli.specs.VectorMap.{MapsEqualCells};
 
 use sk_base::{Cell, Shape};
-use sk_isa::{At, Data, Kernel, VectorCall};
+use sk_kernel::{At, Data, Kernel, VectorCall};
 use std::alloc::{AllocError, Global};
 
 /// The function's value at an element, where it has one.

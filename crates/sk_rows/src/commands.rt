@@ -50,7 +50,11 @@ fn faults(rt: HostRuntime) -> Result<(), Fail> {
     let alloc = rt.alloc();
     let digits = prints_nine_digits(alloc)?;
     let read = Faults {
-        read: true,
+        file_call: Some(0),
+        ..Faults::NONE
+    };
+    let read_again = Faults {
+        file_call: Some(1),
         ..Faults::NONE
     };
     let full = Faults {
@@ -74,6 +78,13 @@ fn faults(rt: HostRuntime) -> Result<(), Fail> {
             digits.as_bytes(),
             read,
             Wanted::silent(7, "read fault prog\n"),
+        ),
+        // The source is read once.
+        (
+            RUN,
+            digits.as_bytes(),
+            read_again,
+            Wanted::ended("123456789\n"),
         ),
         (
             &gone,

@@ -10,8 +10,8 @@ pub const RUN: &[&str] = &["run", "prog"];
 /// What fails in a run.
 #[derive(Clone, Copy, Debug)]
 pub struct Faults {
-    /// Whether the first read fails.
-    pub read: bool,
+    /// Which call of the files fails, if one does; the first is 0.
+    pub file_call: Option<u32>,
     /// How many bytes the output takes in all, where it has an end.
     pub out_room: Option<u32>,
     /// How many bytes the error stream takes in all, where it has an end.
@@ -20,7 +20,7 @@ pub struct Faults {
 
 impl Faults {
     pub const NONE: Faults = Faults {
-        read: false,
+        file_call: None,
         out_room: None,
         err_room: None,
     };
@@ -84,8 +84,8 @@ impl Ran {
             Vec::from_slice(alloc, source)?,
         );
         let mut failing = Vec::new(alloc);
-        if faults.read {
-            failing.push(0u32)?;
+        if let Some(call) = faults.file_call {
+            failing.push(call)?;
         }
         let mut files = MemFiles::new(alloc, vec![in alloc; file]?, failing);
         let mut out = MemSink::new(alloc, faults.out_room);

@@ -3,21 +3,20 @@ use Rattle.std.proofs.Common.{ap, sym, subst, ◌∙◌, ◌≡◌, ℕ, pos, Op
 use Rattle.std.specs.Fmt.{signed_decimal}
 use Rattle.std.specs.Prelude.{unwrap_or, IfOk}
 use Rattle.sk_first.specs.FirstForm.{Holes, AreFine, first_tree}
+use Rattle.sk_tree.specs.InstanceSettings.{default_settings}
 use Rattle.sk_tree.specs.declared.tree.Program.{Program}
-use Rattle.sk_eager.specs.Eager.{eager_of, EagerRun}
 use Rattle.sk_plain.specs.Means.{MeansSource}
 use Rattle.sk_plain.specs.Plain.{IsPlain}
-use Rattle.sk_isa.specs.Instances.{instance_meaning}
+use Rattle.sk_kernel.specs.Instances.{instance_meaning}
 use Rattle.sk_scheme.specs.Plans.{functions_object}
 use Rattle.sk_isa.specs.declared.object.Object.{Object}
 use Rattle.sk_isa.specs.declared.object.Plan.{Plan}
-use Rattle.sk_cli.specs.Answer.{statement_limit}
 use Rattle.sk_cli.specs.declared.parts.Parts.{Parts}
 use Rattle.sk_cli.specs.Parts.{parts_in}
-use Rattle.sk_cli.specs.FirstProgram.{element_in}
+use Rattle.sk_cli.specs.FirstProgram.{element_in, output_of}
 use Rattle.sk_cli.specs.FirstRun.{IsFirstRun}
-use Rattle.sk_cli.proofs.EagerFirst.{eager-first}
 use Rattle.sk_cli.proofs.FirstObject.{first-plain, first-run}
+use Rattle.sk_cli.proofs.RanLemmas.{output-first}
 use Rattle.sk_vm.specs.Instantiated.{Instantiated, IsOf, meaning_of}
 use Rattle.sk_cli.proofs.first_run.printed.Goals as goal
 
@@ -37,7 +36,7 @@ kernel_runs : (program : Program) (h : Holes) (lines : List ℕ) (object : Objec
 kernel_runs program h lines object instance parts fine is compiled means of are =
     first-run h lines object instance.plan (meaning_of instance) parts fine are (compiled ∙ ap functions_object is)
     (subst (λ (p : Program). MeansSource p object) is (means (plain_program program h lines fine is)))
-    of.of_plan (ap (λ (o : Object). instance_meaning o instance.plan) of.of_object)
+    of.of_plan (ap (λ (o : Object). instance_meaning o instance.plan default_settings) of.of_object)
 
 parts_found : (h : Holes) (parts : Parts) (found : Option Parts) → found ≡ Some parts → found ≡ Some (parts_in h) → parts ≡ parts_in h
 parts_found h parts found is known = ap (λ (o : Option Parts). unwrap_or o (parts_in h)) (sym is ∙ known)
@@ -55,8 +54,7 @@ printed_by-requires c = record {
 pub returns : goal.returns
 returns c =
     let h : Holes = c.requires.0 in
-    let run : (eager_of c.args.program.now statement_limit).printed ≡ signed_decimal (element_in h) ++ 10 ∷ [] =
-    ap (λ (p : Program). (eager_of p statement_limit).printed) c.requires.3 ∙ ap (λ (r : EagerRun). r.printed) (eager-first h c.requires.1 c.requires.2 999995) in
+    let run : output_of c.args.program.now ≡ signed_decimal (element_in h) ++ 10 ∷ [] = output-first c.args.program.now c.requires in
     let Says : List ℕ → Type 0 = λ bytes. IfOk c.printed_by.result (λ line. line.items ≡ bytes) in
     subst Says (sym run)
     (c.printed_by.ensures h

@@ -6,7 +6,7 @@ use Rattle.std.specs.Fmt.{signed_decimal}
 use Rattle.std.specs.Prelude.{nat_abs, FitsSigned, IfOk}
 use Rattle.sk_base.specs.declared.number.Ty.TheVariants.{Int}
 use Rattle.sk_base.specs.ArithmeticLaws.{wrapped-in_range, InRange-Long}
-use Rattle.sk_isa.specs.Kernels.{Meaning}
+use Rattle.sk_kernel.specs.Kernels.{Meaning}
 use Rattle.sk_first.specs.FirstForm.{Holes}
 use Rattle.sk_cli.specs.FirstProgram.{element_in, exact_of}
 use Rattle.sk_cli.specs.FirstRun.{IsFirstRun}

@@ -5,7 +5,7 @@ use Rattle.std.proofs.lemmas.List.{replicate_more}
 use Rattle.std.specs.Prelude.{FitsSigned, IsOk, unwrap_or}
 use Rattle.std.specs.Result.{result_unwrap_or}
 use Rattle.sk_base.specs.declared.number.Trap.{Trap}
-use Rattle.sk_isa.specs.Kernels.{Meaning}
+use Rattle.sk_kernel.specs.Kernels.{Meaning}
 use Rattle.sk_cli.specs.VectorMap.{MapsEqualCells}
 use Rattle.sk_cli.proofs.VectorLemmas.{now-suits, now-agrees, now-gives, value-once, shape-read}
 use Rattle.sk_cli.proofs.vector_map.mapped.Goals as goal

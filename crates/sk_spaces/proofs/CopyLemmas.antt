@@ -2,7 +2,8 @@
 use Rattle.std.proofs.Common.{◌≡◌, ℕ, ℤ, ◌+◌, ◌-◌, ◌≤◌, List, ◌++◌, length, take, drop, slice_range, Option, Some, None, IfSome, arith, ap, sym, ◌∙◌, append_assoc, refl, length-drop, length-take}
 use Rattle.std.proofs.lemmas.List.{take-append-drop}
 use Rattle.std.proofs.lemmas.Grind.{common_steps}
-use Rattle.sk_spaces.specs.Blocks.{BlockView, IsWhole, Reaches, overwritten, written, cells_at, copied}
+use Rattle.sk_spaces.specs.Blocks.{BlockView, IsWhole, Reaches, overwritten, written, cells_at, copied, taken_in}
+use Rattle.std.specs.Option.{option_map}
 
 length_part : (xs : List ℤ) (at to : ℕ) → at ≤ to → to ≤ length xs → at + length (slice_range xs at to) ≡ to
 length_part xs at to ordered within = grind (arith, common_steps)
@@ -28,3 +29,15 @@ written-part block lo hi whole reaches =
 pub copied-same : (b : Option BlockView) (lo hi : ℕ) → IfSome b IsWhole → IfSome b (Reaches lo hi) → copied lo hi b b ≡ b
 copied-same None lo hi whole reaches = refl
 copied-same (Some b) lo hi whole reaches = ap Some (written-part b lo hi whole reaches)
+
+-- a write takes no room
+pub taken-written : (o : Option BlockView) (space lo : ℕ) (cells : List ℤ) → taken_in space (option_map (written lo cells) o) ≡ taken_in space o
+taken-written None space lo cells = refl
+taken-written (Some b) space lo cells = refl
+
+-- nor does a copy
+pub taken-copied : (source target : Option BlockView) (space lo hi : ℕ) → taken_in space (copied lo hi source target) ≡ taken_in space target
+taken-copied (Some a) (Some b) space lo hi = refl
+taken-copied (Some a) None space lo hi = refl
+taken-copied None (Some b) space lo hi = refl
+taken-copied None None space lo hi = refl

@@ -20,6 +20,11 @@ block_in blocks id = lookup (is_at (nat_cmp id)) blocks
 abbrev pub len_in : ℕ → BlockView → ℕ
 len_in space block = if block.space == space then block.hi - block.lo else 0
 
+-- the same where there may be no block
+abbrev pub taken_in : ℕ → Option BlockView → ℕ
+taken_in space None = 0
+taken_in space (Some block) = len_in space block
+
 -- how many cells of a space the blocks take together
 abbrev pub used_in : List (ℕ × BlockView) → ℕ → ℕ
 used_in blocks space = sum_by (λ entry. len_in space entry.1) blocks

@@ -151,14 +151,15 @@ writes_in store copy lo hi cells m = record m {
   messages = spoils store lo hi m.messages;
 }
 
+-- a write of these cells at these indices of a copy, which lies so
+abbrev pub writes_at : CopyState → ℕ → ℕ → ℕ → (ℕ → ℤ) → Machine → Machine
+writes_at unused copy lo hi cells m = m
+writes_at (live home) copy lo hi cells m = writes_in home.store copy lo hi cells m
+writes_at freed copy lo hi cells m = m
+
 -- a write of these cells at these indices of a copy
 abbrev pub writes : ℕ → ℕ → ℕ → (ℕ → ℤ) → Machine → Machine
-writes copy lo hi cells m = in_store (m.copies copy)
-  where
-    in_store : CopyState → Machine
-    in_store unused = m
-    in_store (live home) = writes_in home.store copy lo hi cells m
-    in_store freed = m
+writes copy lo hi cells m = writes_at (m.copies copy) copy lo hi cells m
 
 -- a new copy, all stale
 abbrev pub allocates : ℕ → Home → Machine → Machine
@@ -168,41 +169,44 @@ allocates copy home m = record m {
   used = λ space. if space == home.space then m.used space + (home.hi - home.lo) else m.used space;
 }
 
+-- the copy, which lies so, is gone
+abbrev pub frees_at : CopyState → ℕ → Machine → Machine
+frees_at unused copy m = m
+frees_at (live home) copy m = record m {
+  copies = replaced m.copies copy freed;
+  used = λ space. if space == home.space then m.used space - (home.hi - home.lo) else m.used space;
+}
+frees_at freed copy m = m
+
 -- the copy is gone
 abbrev pub frees : ℕ → Machine → Machine
-frees copy m = without (m.copies copy)
-  where
-    without : CopyState → Machine
-    without unused = m
-    without (live home) = record m {
-      copies = replaced m.copies copy freed;
-      used = λ space. if space == home.space then m.used space - (home.hi - home.lo) else m.used space;
-    }
-    without freed = m
+frees copy m = frees_at (m.copies copy) copy m
+
+-- a message in flight with the cells of a copy, which lies so, at these indices
+abbrev pub sends_at : CopyState → ℕ → ℕ → ℕ → ℕ → ℕ → Machine → Machine
+sends_at unused number source target lo hi m = m
+sends_at (live home) number source target lo hi m = record m {
+  messages = replaced m.messages number (Some (record {
+    store = home.store;
+    target = target;
+    lo = lo;
+    hi = hi;
+    cells = m.cells source;
+    fate = flying;
+  }));
+}
+sends_at freed number source target lo hi m = m
 
 -- a message in flight with the cells of a copy at these indices
 abbrev pub sends : ℕ → ℕ → ℕ → ℕ → ℕ → Machine → Machine
-sends number source target lo hi m = from_store (m.copies source)
-  where
-    from_store : CopyState → Machine
-    from_store unused = m
-    from_store (live home) = record m {
-      messages = replaced m.messages number (Some (record {
-        store = home.store;
-        target = target;
-        lo = lo;
-        hi = hi;
-        cells = m.cells source;
-        fate = flying;
-      }));
-    }
-    from_store freed = m
+sends number source target lo hi m = sends_at (m.copies source) number source target lo hi m
+
+-- this message comes to its copy
+abbrev pub delivers_it : Option Message → ℕ → Machine → Machine
+delivers_it None number m = m
+delivers_it (Some message) number m = fills message.target message.lo message.hi message.cells
+    (record m { messages = replaced m.messages number (Some (record message { fate = delivered })) })
 
 -- a message comes to its copy
 abbrev pub delivers : ℕ → Machine → Machine
-delivers number m = fetched (m.messages number)
-  where
-    fetched : Option Message → Machine
-    fetched None = m
-    fetched (Some message) = fills message.target message.lo message.hi message.cells
-        (record m { messages = replaced m.messages number (Some (record message { fate = delivered })) })
+delivers number m = delivers_it (m.messages number) number m

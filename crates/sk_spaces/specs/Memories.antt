@@ -4,7 +4,7 @@ use Rattle.std.specs.Prelude.{Bool, false, not, ◌==◌}
 use Rattle.std.specs.declared.option.Option.{Option}
 use Rattle.sk_spaces.specs.declared.step.Step.{Step}
 use Rattle.sk_spaces.specs.declared.step.Step.TheVariants.{Copy, Back, Send}
-use Rattle.sk_spaces.specs.Blocks.{BlockView, block_in, used_in, IsWhole, ChangesBlock}
+use Rattle.sk_spaces.specs.Blocks.{BlockView, block_in, used_in, len_in, taken_in, IsWhole, ChangesBlock}
 
 -- the live blocks by number, in order; the number of the next block; and how many ranks there are, with how many cells
 -- each in their spaces
@@ -35,12 +35,13 @@ pub record AreSound (memories : MemoriesView) (used : List ℕ) : Type 0 where
 abbrev pub fresh_block : ℕ → ℕ → ℕ → ℕ → BlockView
 fresh_block store space lo hi = record { store = store; space = space; lo = lo; hi = hi; cells = replicate (hi - lo) (pos 0) }
 
--- the block with one number is this one now, or is none; all else is as before
+-- the block with one number is this one now, or is none; all else is as before, and so many cells more or fewer are taken
 pub record ChangesOne (old new : MemoriesView) (id : ℕ) (block : Option BlockView) : Type 0 where
   pub blocks : ChangesBlock old.blocks new.blocks id block
   pub next : new.next ≡ old.next
   pub ranks : new.ranks ≡ old.ranks
   pub capacity : new.capacity ≡ old.capacity
+  pub used : (space : ℕ) → used_of new space + taken_in space (block_of old id) ≡ used_of old space + taken_in space block
 
 -- a new block has the next number; all else is as before
 pub record AddsBlock (old new : MemoriesView) (id : ℕ) (block : BlockView) : Type 0 where
@@ -50,6 +51,7 @@ pub record AddsBlock (old new : MemoriesView) (id : ℕ) (block : BlockView) : T
   pub next : new.next ≡ old.next + 1
   pub ranks : new.ranks ≡ old.ranks
   pub capacity : new.capacity ≡ old.capacity
+  pub used : (space : ℕ) → used_of new space ≡ used_of old space + len_in space block
 
 -- with so many cells more there would be more in the space than it has
 pub record LacksRoom (memories : MemoriesView) (space len : ℕ) : Type 0 where

@@ -68,6 +68,13 @@ impl Memories {
         self.capacity
     }
 
+    /// The number that the next block gets.
+    pub fn next(&self) -> u64
+        ensures { result ≡ self.now.next }
+    {
+        self.next
+    }
+
     /// The cells that are taken in a rank's space.
     pub fn used(&self, space: u32) -> u32
         requires some { 0 < space }

@@ -70,6 +70,13 @@ impl<J: Journal> Spaces<J> {
         self.memories.capacity()
     }
 
+    /// The number that the next block gets.
+    pub fn next(&self) -> u64
+        ensures { result ≡ self.now.memories.next }
+    {
+        self.memories.next()
+    }
+
     /// The cells that are taken in a rank's space.
     pub fn used(&self, space: u32) -> u32
         requires some { 0 < space }

@@ -1,0 +1,72 @@
+use Rattle.std.proofs.Common.{◌≡◌, ℕ, ◌+◌, ◌<◌, ◌≤◌, Option, Some, None, IfSome, IsSome, arith, rules, refl, sym, subst, ap, ◌∙◌}
+use Rattle.sk_coherence.specs.Copies.{home_in}
+use Rattle.sk_coherence.specs.Directory.{DirectoryView, copy_at, store_at}
+use Rattle.sk_coherence.specs.Moves.{Idles}
+use Rattle.sk_coherence.specs.Serves.{Serves}
+use Rattle.sk_coherence.specs.Acquires.{IsRoomFault}
+use Rattle.sk_coherence.proofs.NamedMoves.{on_err_any, if_err_of}
+use Rattle.sk_coherence.proofs.ServesLemmas.{serves-trans, serves-idle, idle-reserve}
+use Rattle.sk_coherence.proofs.FillSums.{idle-trans}
+use Rattle.sk_coherence.proofs.AcquireLemmas.{home_there, fault-room, store-stays, traces-owed, traces-idled}
+use Rattle.sk_coherence.proofs.directory.Directory.acquire_write_here.Goals as goal
+
+pub owe_write-requires-clause-there : goal.owe_write-requires-clause-there
+owe_write-requires-clause-there g c =
+    subst (λ (x : DirectoryView). IsSome (store_at x c.args.place.store)) (sym c.reserve.ensures.same)
+    (store-stays c.args.self.now c.place.new.self c.args.place.store c.place.ensures.serves c.requires.there)
+
+pub owe_write-requires-clause-copy : goal.owe_write-requires-clause-copy
+owe_write-requires-clause-copy g c = let p = c.args.place in
+    subst (λ (x : DirectoryView). IsSome (copy_at x c.in_ok-copy.copy.id)) (sym c.reserve.ensures.same)
+    (home_there (copy_at c.place.new.self c.in_ok-copy.copy.id) (record { store = p.store; space = p.space; lo = p.block.lo; hi = p.block.hi }) c.in_ok-copy.ensures.home)
+
+pub returns-in_err-copy-clause-fault : goal.returns-in_err-copy-clause-fault
+returns-in_err-copy-clause-fault g c =
+    let p = c.args.place in
+    let f : IsRoomFault c.args.self.now p.store p.space p.block.lo p.block.hi c.in_err-copy.field-0.0
+    = fault-room c.args.self.now p.store p.space p.block.lo p.block.hi c.in_err-copy.field-0.0 c.in_err-copy.ensures.fault (c.in_err-copy.ensures.absent refl) in
+    if_err_of c.from_residual.result c.in_err-copy.field-0.0 (IsRoomFault c.args.self.now p.store p.space p.block.lo p.block.hi) (search rules) f
+
+pub returns-in_err-reserve-clause-err : goal.returns-in_err-reserve-clause-err
+returns-in_err-reserve-clause-err g c =
+    let i : Idles c.place.new.self c.reserve.new.self = idle-reserve c.place.new.self c.reserve.new.self c.reserve.ensures.same c.reserve.ensures.spaces c.reserve.ensures.kept in
+    on_err_any c.from_residual-in_err-reserve.result
+    (serves-trans c.args.self.now c.place.new.self c.reserve.new.self c.is_sound.ensures c.place.ensures.serves (serves-idle c.place.new.self c.reserve.new.self i))
+
+pub returns-in_err-reserve-clause-traced : goal.returns-in_err-reserve-clause-traced
+returns-in_err-reserve-clause-traced g c = let p = c.args.place in
+    traces-idled c.args.self.now c.place.new.self c.reserve.new.self p.store p.space p.block.lo p.block.hi c.place.ensures.traced
+    (idle-reserve c.place.new.self c.reserve.new.self c.reserve.ensures.same c.reserve.ensures.spaces c.reserve.ensures.kept)
+
+pub returns-in_err-owe_write-clause-err : goal.returns-in_err-owe_write-clause-err
+returns-in_err-owe_write-clause-err g c =
+    let i : Idles c.place.new.self c.reserve.new.self = idle-reserve c.place.new.self c.reserve.new.self c.reserve.ensures.same c.reserve.ensures.spaces c.reserve.ensures.kept in
+    on_err_any c.from_residual-in_err-owe_write.result
+    (serves-trans c.args.self.now c.place.new.self c.owe_write.new.self c.is_sound.ensures c.place.ensures.serves
+    (serves-idle c.place.new.self c.owe_write.new.self (idle-trans c.place.new.self c.reserve.new.self c.owe_write.new.self i c.in_err-owe_write.ensures.err)))
+
+pub returns-in_err-owe_write-clause-traced : goal.returns-in_err-owe_write-clause-traced
+returns-in_err-owe_write-clause-traced g c =
+    let p = c.args.place in
+    let i : Idles c.place.new.self c.reserve.new.self = idle-reserve c.place.new.self c.reserve.new.self c.reserve.ensures.same c.reserve.ensures.spaces c.reserve.ensures.kept in
+    traces-idled c.args.self.now c.place.new.self c.owe_write.new.self p.store p.space p.block.lo p.block.hi c.place.ensures.traced
+    (idle-trans c.place.new.self c.reserve.new.self c.owe_write.new.self i c.in_err-owe_write.ensures.err)
+
+pub returns-clause-ok : goal.returns-clause-ok
+returns-clause-ok g c =
+    let i : Idles c.place.new.self c.reserve.new.self = idle-reserve c.place.new.self c.reserve.new.self c.reserve.ensures.same c.reserve.ensures.spaces c.reserve.ensures.kept in
+    record {
+      before = c.reserve.new.self;
+      serves = serves-trans c.args.self.now c.place.new.self c.reserve.new.self c.is_sound.ensures c.place.ensures.serves (serves-idle c.place.new.self c.reserve.new.self i);
+      owes = c.in_ok-owe_write.ensures.ok;
+    }
+
+pub returns-clause-home : goal.returns-clause-home
+returns-clause-home g c =
+    (c.in_ok-owe_write.ensures.ok.copies c.in_ok-copy.copy.id).home ∙ ap (λ (x : DirectoryView). home_in (copy_at x c.in_ok-copy.copy.id)) c.reserve.ensures.same ∙ c.in_ok-copy.ensures.home
+
+pub returns-clause-traced : goal.returns-clause-traced
+returns-clause-traced g c = let p = c.args.place in
+    traces-owed c.args.self.now c.place.new.self c.reserve.new.self c.owe_write.new.self p.store p.space p.block.lo p.block.hi c.place.ensures.traced
+    (idle-reserve c.place.new.self c.reserve.new.self c.reserve.ensures.same c.reserve.ensures.spaces c.reserve.ensures.kept)
+    c.in_ok-owe_write.ensures.ok.spaces c.owe_write.ensures.traced

@@ -1,0 +1,44 @@
+use Rattle.std.proofs.Common.{◌≡◌, ℕ, ◌+◌, ◌<◌, ◌≤◌, Option, Some, None, IfSome, arith, refl, sym, subst, ap, ◌∙◌}
+use Rattle.sk_coherence.specs.Directory.{copy_at}
+use Rattle.sk_coherence.specs.Sources.{MayRead}
+use Rattle.sk_coherence.specs.Steps.{IsFill}
+use Rattle.sk_coherence.proofs.AddLemmas.{if_some}
+use Rattle.sk_coherence.proofs.ServesLemmas.{serves-trans, grows-trans}
+use Rattle.sk_coherence.proofs.TracesLemmas.{traces-trans}
+use Rattle.sk_coherence.proofs.FillSums.{owner-carried, read-more}
+use Rattle.sk_coherence.proofs.directory.Directory.fill_needed.Goals as goal
+
+pub fill_next-requires-clause-owned : goal.fill_next-requires-clause-owned
+fill_next-requires-clause-owned g c = λ i above below. let v = c.parts.invariant in
+    owner-carried c.args.self.now c.parts.self c.args.copy.id i v.serves v.stays (c.requires.owned i (omega (arith, v.above, above)) below)
+
+pub returns-in_err-next-clause-serves : goal.returns-in_err-next-clause-serves
+returns-in_err-next-clause-serves g c =
+    serves-trans c.args.self.now c.parts.self c.fill_next.new.self c.is_sound.ensures c.parts.invariant.serves c.fill_next.ensures.serves
+
+pub returns-in_err-next-clause-traced : goal.returns-in_err-next-clause-traced
+returns-in_err-next-clause-traced g c =
+    traces-trans IsFill c.args.self.now c.parts.self c.fill_next.new.self c.parts.invariant.traced c.fill_next.ensures.traced
+
+pub parts-preserved : goal.parts-preserved
+parts-preserved g c =
+    let v = c.parts.invariant in
+    let n = c.fill_next.new.self in
+    let part : (c.parts.lo < c.in-Some.next) × (c.in-Some.next ≤ c.args.need.hi) × MayRead (copy_at n c.args.copy.id) c.parts.lo c.in-Some.next
+    = if_some c.in_ok-next.field-0 c.in-Some.next (λ lo. (c.parts.lo < lo) × (lo ≤ c.args.need.hi) × MayRead (copy_at n c.args.copy.id) c.parts.lo lo) c.in-Some.is c.in_ok-next.ensures.part in
+    record {
+      above = omega (arith, v.above, part.0);
+      below = part.1;
+      serves = serves-trans c.args.self.now c.parts.self n c.is_sound.ensures v.serves c.fill_next.ensures.serves;
+      traced = traces-trans IsFill c.args.self.now c.parts.self n v.traced c.fill_next.ensures.traced;
+      stays = grows-trans c.args.self.now c.parts.self n c.args.copy.id v.stays c.fill_next.ensures.stays;
+      done = read-more c.parts.self n c.args.copy.id c.args.need.lo c.parts.lo c.in-Some.next c.fill_next.ensures.stays v.done part.2;
+    }
+
+pub returns-in-None-clause-serves : goal.returns-in-None-clause-serves
+returns-in-None-clause-serves g c =
+    serves-trans c.args.self.now c.parts.self c.fill_next.new.self c.is_sound.ensures c.parts.invariant.serves c.fill_next.ensures.serves
+
+pub returns-in-None-clause-traced : goal.returns-in-None-clause-traced
+returns-in-None-clause-traced g c =
+    traces-trans IsFill c.args.self.now c.parts.self c.fill_next.new.self c.parts.invariant.traced c.fill_next.ensures.traced

@@ -1,0 +1,19 @@
+use Rattle.std.proofs.Common.{◌≡◌, ℕ, ◌-◌, ◌<◌, ◌≤◌}
+use Rattle.sk_coherence.specs.Directory.{IsSound, copy_at}
+use Rattle.sk_coherence.specs.Sources.{MayRead}
+use Rattle.sk_coherence.specs.Serves.{Serves, GrowsAt}
+use Rattle.sk_coherence.specs.Steps.{Traces, IsFill}
+use Rattle.sk_coherence.proofs.directory.Directory.fill_needed.Given as goal
+
+abbrev pub invariant-parts : goal.invariant-parts
+invariant-parts g l = record {
+  above : l.need.lo ≤ l.lo;
+  below : l.lo ≤ l.need.hi;
+  serves : Serves l.fn.self l.self;
+  traced : Traces IsFill l.fn.self l.self;
+  stays : GrowsAt l.fn.self l.self l.copy.id;
+  done : MayRead (copy_at l.self l.copy.id) l.need.lo l.lo;
+}
+
+abbrev pub decreases-parts : goal.decreases-parts
+decreases-parts g l = l.need.hi - l.lo

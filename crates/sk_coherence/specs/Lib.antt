@@ -1,0 +1,16 @@
+pub mod Held
+pub mod Copies
+pub mod Stores
+pub mod Directory
+pub mod Traced
+pub mod Writes
+pub mod Adds
+pub mod HostBlocks
+pub mod Frees
+pub mod Sources
+pub mod Moves
+pub mod Steps
+pub mod Serves
+pub mod Acquires
+pub mod Owes
+pub mod Rebinds

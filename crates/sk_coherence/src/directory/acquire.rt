@@ -1,0 +1,112 @@
+//! Copies that are acquired.
+ghost use Rattle.std.specs.Prelude.{◌≡◌, ◌≢◌, ℕ, ◌+◌, ◌<◌, ◌≤◌, Some, None, IfSome, IsSome, IfOk, IfErr, OnOk, OnErr};
+ghost use Rattle.sk_coherence.specs.Copies.{home_in, store_in, state_in};
+ghost use Rattle.sk_coherence.specs.Directory.{copy_at, store_at};
+ghost use Rattle.sk_coherence.specs.Stores.{IsBlockOf};
+ghost use Rattle.sk_coherence.specs.Sources.{MayRead, IsOwned};
+ghost use Rattle.sk_coherence.specs.Serves.{Serves};
+ghost use Rattle.sk_coherence.specs.Steps.{Traces, IsAlloc, IsServing};
+ghost use Rattle.sk_coherence.specs.Moves.{Idles};
+ghost use Rattle.sk_coherence.specs.Owes.{OwesWrite, AcquiresWrite};
+ghost use Rattle.sk_coherence.specs.Acquires.{PinsOne, Acquires, IsRoomFault};
+ghost use Rattle.sk_coherence.specs.Traced.{IsLike};
+ghost use Rattle.sk_spaces.specs.Machine.{Machine};
+
+use crate::copies::{pin, reserve_listed};
+use crate::directory::Directory;
+use crate::entries::Place;
+use crate::stores::expect_write;
+use sk_base::Range;
+use sk_copies::{CopyId, StoreId};
+use sk_spaces::{Journal, Memory, SpaceFault};
+use std::alloc::Global;
+
+impl<J: Journal> Directory<J> {
+    /// Adds one pin to a copy.
+    fn pin(&mut self, copy: CopyId) -> Result<(), Memory>
+        requires there { IsSome (copy_at self.old copy.id) }
+        ensures ok { OnOk result (PinsOne self.old self.new copy.id) }
+        ensures err { OnErr result ((q : ℕ) → copy_at self.new q ≡ copy_at self.old q) }
+        ensures same { self.new ≡ record self.old { copies = self.new.copies } }
+        ensures traced { (m : Machine) → IsLike m self.old → IsLike m self.new }
+    {
+        pin(&mut self.copies, copy.id)
+    }
+
+    /// The copy with exactly this block in a space, pinned once more, which may be read where it is needed. It is made where there
+    /// is none; no other copy gives way for it.
+    pub(crate) fn acquire_here(
+        &mut self,
+        alloc: Global,
+        place: Place,
+        need: Range,
+    ) -> Result<CopyId, SpaceFault>
+        requires there { IsSome (store_at self.old place.store) }
+        requires block { IfSome (store_at self.old place.store) (IsBlockOf place.block.lo place.block.hi) }
+        requires ranks { place.space ≤ self.old.spaces.memories.ranks }
+        requires above { place.block.lo ≤ need.lo }
+        requires below { need.hi ≤ place.block.hi }
+        requires owned { (i : ℕ) → need.lo ≤ i → i < need.hi → IsOwned self.old place.store i }
+        ensures ok { IfOk result (λ copy. Acquires self.old self.new copy.id) }
+        ensures home { IfOk result (λ copy. home_in (copy_at self.new copy.id)
+            ≡ Some (record { store = place.store; space = place.space; lo = place.block.lo; hi = place.block.hi })) }
+        ensures readable { IfOk result (λ copy. MayRead (copy_at self.new copy.id) need.lo need.hi) }
+        ensures fault { IfErr result (IsRoomFault self.old place.store place.space place.block.lo place.block.hi) }
+        ensures err { OnErr result (Serves self.old self.new) }
+        ensures traced { Traces (IsServing place.store place.space place.block.lo place.block.hi) self.old self.new }
+    {
+        self.is_sound();
+        let copy = self.place(alloc, place)?;
+        self.fill_needed(alloc, copy, need)?;
+        self.pin(copy)?;
+        Ok(copy)
+    }
+
+    /// Pins a copy, and makes room for one write of its store, and for cells anew that may go before it: in the states of each of
+    /// the store's copies and in the journal. They are owed from then on.
+    fn owe_write(&mut self, store: StoreId, copy: CopyId) -> Result<(), Memory>
+        requires ready { self.old.owed + 2 ≤ self.old.ready }
+        requires there { IsSome (store_at self.old store.id) }
+        requires copy { IsSome (copy_at self.old copy.id) }
+        ensures ok { OnOk result (OwesWrite self.old self.new store.id copy.id) }
+        ensures err { OnErr result (Idles self.old self.new) }
+        ensures traced { (m : Machine) → IsLike m self.old → IsLike m self.new }
+    {
+        let Some(listed) = self.stores.get(&store.id) else {
+            return Err(Memory);
+        };
+        let Some(room) = listed.room().checked_add(2) else {
+            return Err(Memory);
+        };
+        reserve_listed(&mut self.copies, listed.copies(), room)?;
+        pin(&mut self.copies, copy.id)?;
+        expect_write(&mut self.stores, store.id);
+        self.owed += 2;
+        Ok(())
+    }
+
+    /// The copy with exactly this block in a space, pinned once more, with room for a write. It is made where there is none;
+    /// nothing is filled, and no other copy gives way for it.
+    pub(crate) fn acquire_write_here(
+        &mut self,
+        alloc: Global,
+        place: Place,
+    ) -> Result<CopyId, SpaceFault>
+        requires there { IsSome (store_at self.old place.store) }
+        requires block { IfSome (store_at self.old place.store) (IsBlockOf place.block.lo place.block.hi) }
+        requires ranks { place.space ≤ self.old.spaces.memories.ranks }
+        ensures ok { IfOk result (λ copy. AcquiresWrite self.old self.new place.store copy.id) }
+        ensures home { IfOk result (λ copy. home_in (copy_at self.new copy.id)
+            ≡ Some (record { store = place.store; space = place.space; lo = place.block.lo; hi = place.block.hi })) }
+        ensures fault { IfErr result (IsRoomFault self.old place.store place.space place.block.lo place.block.hi) }
+        ensures err { OnErr result (Serves self.old self.new) }
+        ensures traced { Traces (IsAlloc place.store place.space place.block.lo place.block.hi) self.old self.new }
+    {
+        self.is_sound();
+        let copy = self.place(alloc, place)?;
+        let store = StoreId { id: place.store };
+        self.reserve(alloc, 2)?;
+        self.owe_write(store, copy)?;
+        Ok(copy)
+    }
+}

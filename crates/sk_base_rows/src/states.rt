@@ -1,8 +1,88 @@
-//! Overlapping changes of the states of a copy, drawn by index and by run.
+//! The states of the indices of a copy, drawn by index and by run.
+ghost use Rattle.std.specs.Prelude.{◌≤◌, length};
+
+use crate::words::{parted_at, range_of};
 use sk_base::Range;
 use sk_ranges::{State, States};
 use std::alloc::{AllocError, Global};
-use std::test::Fail;
+use std::fmt::Write;
+
+/// What is drawn after each change of states.
+pub fn states(alloc: Global, text: &str) -> Result<Option<String>, AllocError> {
+    let (len, changes) = parted_at(text, ';');
+    let Some(mut states) = made(alloc, len.trim()) else {
+        return Ok(None);
+    };
+    let mut out = String::new(alloc);
+    for change in changes.split(';') {
+        if !out.is_empty() {
+            out.push_str(", ")?;
+        }
+        push_change(alloc, &mut out, &mut states, change.trim())?;
+    }
+    Ok(Some(out))
+}
+
+/// States of so many indices.
+fn made(alloc: Global, len: &str) -> Option<States> {
+    States::new(alloc, len.parse().ok()?).ok()
+}
+
+/// Adds what comes of a change, or what is missing.
+fn push_change(
+    alloc: Global,
+    out: &mut String,
+    states: &mut States,
+    change: &str,
+) -> Result<(), AllocError> {
+    let (lo, rest) = parted_at(change, ' ');
+    let (hi, sign) = parted_at(rest, ' ');
+    match range_of(lo, hi) {
+        Some(range) if range.hi <= states.len() => push_changed(alloc, out, states, range, sign),
+        _ => out.push_str("no change"),
+    }
+}
+
+/// Adds what comes of a change of a range that is there, or what is missing of it.
+fn push_changed(
+    alloc: Global,
+    out: &mut String,
+    states: &mut States,
+    range: Range,
+    sign: &str,
+) -> Result<(), AllocError>
+    requires { range.hi ≤ length states.old.states }
+{
+    match state_of(sign) {
+        Some(state) => {
+            if states.reserve(1).is_err() {
+                return out.push_str("no memory");
+            }
+            states.set(range, state);
+            push_drawn(alloc, out, states)
+        }
+        None => match states.missing(range) {
+            Some(run) => {
+                let (lo, hi) = (run.lo, run.hi);
+                write!(out, "{lo} {hi}")
+            }
+            None => out.push_str("none"),
+        },
+    }
+}
+
+/// The state that a letter draws.
+fn state_of(sign: &str) -> Option<State> {
+    if sign == "." {
+        Some(State::Stale)
+    } else if sign == "v" {
+        Some(State::Valid)
+    } else if sign == "o" {
+        Some(State::Owner)
+    } else {
+        None
+    }
+}
 
 /// The letter that a state is drawn with.
 fn letter(state: State) -> char {
@@ -11,6 +91,18 @@ fn letter(state: State) -> char {
         State::Valid => 'v',
         State::Owner => 'o',
     }
+}
+
+/// Adds a letter for each index, and the same by a walk from run to run where that differs.
+fn push_drawn(alloc: Global, out: &mut String, states: &States) -> Result<(), AllocError> {
+    let drawn = drawn(alloc, states)?;
+    let walked = walked(alloc, states)?;
+    out.push_str(drawn.as_str())?;
+    if walked.as_str() != drawn.as_str() {
+        out.push_str(" but by runs ")?;
+        out.push_str(walked.as_str())?;
+    }
+    Ok(())
 }
 
 /// A letter for each index.
@@ -35,39 +127,4 @@ fn walked(alloc: Global, states: &States) -> Result<String, AllocError> {
         lo = run.range.hi;
     }
     Ok(text)
-}
-
-#[test]
-fn finds_the_first_missing_run(rt: HostRuntime) -> Result<(), Fail> {
-    let mut states = States::new(rt.alloc(), 8)?;
-    states.reserve(1)?;
-    assert_eq!(rt; states.len(), 8);
-    states.set(Range { lo: 2, hi: 5 }, State::Valid);
-    let found = states.missing(Range { lo: 1, hi: 8 });
-    assert_eq!(rt; found, Some(Range { lo: 1, hi: 2, },));
-    Ok(())
-}
-
-#[test]
-fn keeps_overlapping_changes(rt: HostRuntime) -> Result<(), Fail> {
-    let mut states = States::new(rt.alloc(), 10)?;
-    for (range, state, want) in [
-        (Range { lo: 2, hi: 6 }, State::Valid, "..vvvv...."),
-        (Range { lo: 4, hi: 8 }, State::Owner, "..vvoooo.."),
-        (Range { lo: 0, hi: 3 }, State::Owner, "ooovoooo.."),
-        (Range { lo: 3, hi: 4 }, State::Owner, "oooooooo.."),
-        (Range { lo: 5, hi: 5 }, State::Valid, "oooooooo.."),
-        (Range { lo: 1, hi: 2 }, State::Stale, "o.oooooo.."),
-        (Range { lo: 7, hi: 10 }, State::Stale, "o.ooooo..."),
-        (Range { lo: 0, hi: 10 }, State::Valid, "vvvvvvvvvv"),
-        (Range { lo: 9, hi: 10 }, State::Stale, "vvvvvvvvv."),
-        (Range { lo: 0, hi: 1 }, State::Owner, "ovvvvvvvv."),
-    ] {
-        states.reserve(1)?;
-        assert!(rt; range.hi <= states.len());
-        states.set(range, state);
-        assert_eq!(rt; drawn(rt.alloc(), &states)?.as_str(), want);
-        assert_eq!(rt; walked(rt.alloc(), &states)?.as_str(), want);
-    }
-    Ok(())
 }

@@ -182,13 +182,6 @@ fn put_all(out: &mut String, values: &[Expr]) -> Result<(), AllocError> {
     Ok(())
 }
 
-/// Appends a word with values behind it.
-fn put_valued(out: &mut String, word: &str, values: &[Expr]) -> Result<(), AllocError> {
-    out.push_str(word)?;
-    out.push_str(" ")?;
-    put_all(out, values)
-}
-
 /// Appends a word with a value behind it.
 fn put_value(out: &mut String, word: &str, value: &Expr) -> Result<(), AllocError> {
     out.push_str(word)?;
@@ -204,7 +197,10 @@ fn put_setting(out: &mut String, setting: &Setting) -> Result<(), AllocError> {
         Setting::Scan(true) => out.push_str("scan Exclusive"),
         Setting::Lines(false) => out.push_str("lines RowWise"),
         Setting::Lines(true) => out.push_str("lines ColWise"),
-        Setting::Overlap(values) => put_valued(out, "overlap", values.as_slice()),
+        Setting::Overlap(values) => {
+            out.push_str("overlap ")?;
+            put_all(out, values.as_slice())
+        }
         Setting::Edge(EdgeMode::Duplicate) => out.push_str("edge Duplicate"),
         Setting::Edge(EdgeMode::Cyclic) => out.push_str("edge Cyclic"),
         Setting::Edge(EdgeMode::Pad) => out.push_str("edge Pad"),
@@ -257,17 +253,15 @@ fn put_items(out: &mut String, items: &[Item]) -> Result<(), AllocError> {
 /// Appends a word, the kind of a container, its type and a blank.
 fn put_kind(out: &mut String, word: &str, sizes: u8, ty: Ty) -> Result<(), AllocError> {
     let ty = type_name(ty);
-    write!(out, "{word} {sizes} {ty} ")?;
-    Ok(())
+    write!(out, "{word} {sizes} {ty} ")
 }
 
 /// Appends a statement that holds no other, without its parentheses.
 fn put_plain(out: &mut String, what: &What) -> Result<(), AllocError> {
     match what {
         What::Declare(ty, name, value) => {
-            out.push_str("let ")?;
-            out.push_str(type_name(*ty))?;
-            out.push_str(" ")?;
+            let ty = type_name(*ty);
+            write!(out, "let {ty} ")?;
             put_name(out, name)?;
             put_value(out, "", value)
         }

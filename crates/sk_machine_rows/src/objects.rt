@@ -1,41 +1,39 @@
-//! What a compiled program has beside the code of its functions.
-use crate::sources::object_of;
-use sk_isa::{Object, Variant};
-use std::alloc::Global;
-use std::process::Abort;
-use std::test::Fail;
+//! What a compiled form has beside code.
+use sk_isa::{Code, Object, Plan};
+use std::alloc::{AllocError, Global};
+use std::fmt::Write;
 
-const SOURCE: &str = "\
-int add(int a, int b) { return a + b; }
-int tested(int a, int b) { return 1; }
-int main() { auto s = skepu::Reduce(add); }
-";
-
-/// The compiled form of the source.
-fn object(rt: &impl Abort, alloc: Global) -> Result<Object, Fail> {
-    Ok(object_of(rt, alloc, SOURCE).ok_or("no object")?)
+/// Of each function before main the slots and the most values on its stack, the number of signatures, what is known never
+/// to trap, the number of main's instructions, and the plans.
+pub fn shown(alloc: Global, object: &Object) -> Result<String, AllocError> {
+    let mut out = String::new(alloc);
+    for code in object.functions.as_slice() {
+        push_code(&mut out, code)?;
+    }
+    let signatures = object.signatures.len();
+    let safe = object.safe.as_slice();
+    let instrs = object.main.instrs.len();
+    write!(out, "{signatures} signatures, safe {safe:?}, main {instrs}")?;
+    for plan in object.instances.as_slice() {
+        push_plan(&mut out, plan)?;
+    }
+    Ok(out)
 }
 
-#[test]
-fn an_object_has_functions(rt: HostRuntime) -> Result<(), Fail> {
-    let object = object(&rt, rt.alloc())?;
-    assert_eq!(rt; object.functions.len(), 2);
-    assert_eq!(rt; object.signatures.len(), 3);
-    assert_eq!(rt; object.safe.as_slice(), [false, false].as_slice());
-    assert_eq!(rt; object.main.instrs.len(), 0);
-    let add = object.functions.get(0).ok_or("no function")?;
-    assert_eq!(rt; add.slots, 2);
-    assert_eq!(rt; add.depth, 2);
-    Ok(())
+/// Adds a function's slots and depth.
+fn push_code(out: &mut String, code: &Code) -> Result<(), AllocError> {
+    let Code { slots, depth, .. } = code;
+    write!(out, "slots {slots} depth {depth}, ")
 }
 
-#[test]
-fn an_object_has_plans(rt: HostRuntime) -> Result<(), Fail> {
-    let object = object(&rt, rt.alloc())?;
-    let plan = object.instances.get(0).ok_or("no instance")?;
-    assert_eq!(rt; plan.name.as_bytes(), b"s".as_slice());
-    assert_eq!(rt; plan.functions.as_slice(), [0].as_slice());
-    assert_eq!(rt; plan.elements, 0);
-    assert_eq!(rt; plan.variants.as_slice(), [Variant::Sequential].as_slice());
-    Ok(())
+/// Adds a plan.
+fn push_plan(out: &mut String, plan: &Plan) -> Result<(), AllocError> {
+    out.push_str(", plan ")?;
+    for byte in plan.name.as_bytes() {
+        out.push(char::from(*byte))?;
+    }
+    let functions = plan.functions.as_slice();
+    let elements = plan.elements;
+    let variants = plan.variants.as_slice();
+    write!(out, " of {functions:?}, {elements} elements, {variants:?}")
 }

@@ -1,62 +1,65 @@
-ghost use Rattle.std.specs.Prelude.{◌<◌};
-
+//! Messages and jobs as text.
 use sk_base::Range;
 use sk_copies::{CopyId, Transfer};
-use sk_ranks::{Job, Memory, Message, RankPhase, is_plan};
-use std::alloc::{AllocError, Global};
+use sk_ranks::{Job, Message};
+use std::alloc::Global;
 
-/// Why there is no phase.
-#[derive(Debug, Drop)]
-pub enum Unprepared {
-    NoPlan,
-    Memory,
-}
-
-impl From<Memory> for Unprepared {
-    fn from(_: Memory) -> Unprepared {
-        Unprepared::Memory
+/// The messages of these words: the job that each waits for, or `-` for none.
+pub fn messages(alloc: Global, words: &str) -> Option<Vec<Message>> {
+    let mut messages = Vec::new(alloc);
+    for word in words.split_whitespace() {
+        let number = messages.len() as u64;
+        messages.push(message(number, word)?).ok()?;
     }
+    Some(messages)
 }
 
-/// One cell, from a copy to the next.
-pub fn transfer(from: u64) -> Transfer
-    requires { from < 1000 }
-{
-    Transfer {
-        from: CopyId { id: from },
-        to: CopyId { id: from + 1 },
-        range: Range { lo: 0, hi: 1 },
-    }
-}
-
-/// A message from this copy that waits for a job, or for none.
-pub fn message(from: u64, after: Option<u32>) -> Message
-    requires { from < 1000 }
-{
-    Message {
-        transfer: transfer(from),
+/// A message with one cell of a copy for the next.
+fn message(number: u64, word: &str) -> Option<Message> {
+    let after = if word == "-" {
+        None
+    } else {
+        Some(word.parse().ok()?)
+    };
+    Some(Message {
+        transfer: Transfer {
+            from: CopyId { id: number },
+            to: CopyId {
+                id: number.checked_add(1)?,
+            },
+            range: Range { lo: 0, hi: 1 },
+        },
         after,
-    }
-}
-
-/// A job that waits for these messages and jobs.
-pub fn job(alloc: Global, messages: &[u32], after: &[u32]) -> Result<Job, AllocError> {
-    Ok(Job {
-        rank: 1,
-        messages: messages.to_vec(alloc)?,
-        after: after.to_vec(alloc)?,
     })
 }
 
-/// The phase of these messages and jobs, of which there are few.
-pub fn prepared(
-    alloc: Global,
-    messages: Vec<Message>,
-    jobs: Vec<Job>,
-) -> Result<RankPhase, Unprepared> {
-    if messages.len() < 1000 && jobs.len() < 1000 && is_plan(&messages, &jobs) {
-        Ok(RankPhase::prepare(alloc, messages, jobs)?)
-    } else {
-        Err(Unprepared::NoPlan)
+/// The jobs of these words: the messages that each waits for, `/`, and the jobs.
+pub fn jobs(alloc: Global, words: &str) -> Option<Vec<Job>> {
+    let mut jobs = Vec::new(alloc);
+    for word in words.split_whitespace() {
+        jobs.push(job(alloc, word)?).ok()?;
     }
+    Some(jobs)
+}
+
+/// A job of one rank.
+fn job(alloc: Global, word: &str) -> Option<Job> {
+    let (messages, after) = word.split_once('/')?;
+    Some(Job {
+        rank: 1,
+        messages: numbers(alloc, messages)?,
+        after: numbers(alloc, after)?,
+    })
+}
+
+/// Numbers with commas between.
+fn numbers(alloc: Global, text: &str) -> Option<Vec<u32>> {
+    let mut numbers = Vec::new(alloc);
+    if text.is_empty() {
+        return Some(numbers);
+    }
+    for number in text.split(',') {
+        numbers.push(number.parse().ok()?).ok()?;
+    }
+    Some(numbers)
 }

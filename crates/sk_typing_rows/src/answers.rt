@@ -3,6 +3,7 @@ use sk_base::Ty;
 use sk_lexer::tokens;
 use sk_names::Name;
 use sk_parser::parse;
+use sk_tables::{Answers, Row};
 use sk_tree::{Declared, Program};
 use sk_types::{TypeFault, Typed, check};
 use std::alloc::{AllocError, Global};
@@ -10,12 +11,28 @@ use std::alloc::{AllocError, Global};
 /// No text of a row has so many bytes or tokens.
 const MANY: usize = 10_000;
 
+/// The answers of the check of names and types.
+#[derive(Drop)]
+pub struct Typing;
+
+impl Answers for Typing {
+    fn answer(&mut self, alloc: Global, question: &str, row: &Row) -> Result<String, AllocError> {
+        if question == "inputs" {
+            inputs(alloc, row.whole.as_slice())
+        } else if question == "numbers" {
+            number(alloc, row.around.as_slice(), row.text.as_slice())
+        } else {
+            faults(alloc, row.whole.as_slice())
+        }
+    }
+}
+
 /// The program that a text is, if it is one.
-fn program_of(alloc: Global, text: &str) -> Option<Program> {
+fn program_of(alloc: Global, text: &[u8]) -> Option<Program> {
     if text.len() >= MANY {
         return None;
     }
-    let tokens = tokens(alloc, text.as_bytes()).ok()?;
+    let tokens = tokens(alloc, text).ok()?;
     if tokens.len() >= MANY {
         return None;
     }
@@ -23,7 +40,7 @@ fn program_of(alloc: Global, text: &str) -> Option<Program> {
 }
 
 /// The text as a typed program, if it is one.
-fn typed_of(alloc: Global, text: &str) -> Option<Typed> {
+fn typed_of(alloc: Global, text: &[u8]) -> Option<Typed> {
     check(alloc, program_of(alloc, text)?).ok()
 }
 
@@ -41,7 +58,7 @@ fn told(alloc: Global, fault: TypeFault) -> Result<String, AllocError> {
 }
 
 /// `typed`, or the fault that is told of a program.
-pub fn faults(alloc: Global, text: &str) -> Result<String, AllocError> {
+fn faults(alloc: Global, text: &[u8]) -> Result<String, AllocError> {
     match program_of(alloc, text) {
         Some(program) => match check(alloc, program) {
             Ok(_typed) => String::from_str(alloc, "typed"),
@@ -52,7 +69,7 @@ pub fn faults(alloc: Global, text: &str) -> Result<String, AllocError> {
 }
 
 /// The inputs of a typed program: of each the name, the number of sizes and the type.
-pub fn inputs(alloc: Global, text: &str) -> Result<String, AllocError> {
+fn inputs(alloc: Global, text: &[u8]) -> Result<String, AllocError> {
     match typed_of(alloc, text) {
         Some(typed) => shown(alloc, typed.inputs()),
         None => String::from_str(alloc, "not typed"),
@@ -60,12 +77,12 @@ pub fn inputs(alloc: Global, text: &str) -> Result<String, AllocError> {
 }
 
 /// The number of the function of that name in a typed program, and how many functions there are.
-pub fn number(alloc: Global, text: &str, word: &str) -> Result<String, AllocError> {
+fn number(alloc: Global, text: &[u8], word: &[u8]) -> Result<String, AllocError> {
     let Some(typed) = typed_of(alloc, text) else {
         return String::from_str(alloc, "not typed");
     };
     let count = typed.program().functions.len();
-    let name = Name::from_slice(alloc, word.as_bytes())?;
+    let name = Name::from_slice(alloc, word)?;
     match typed.function(&name) {
         Some(number) => format!(in alloc; "{number} of {count}"),
         None => format!(in alloc; "none of {count}"),

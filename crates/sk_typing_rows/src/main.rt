@@ -1,29 +1,20 @@
 //! Rows of names and types that were worked out by hand, as data: the file `stdin` is a table of source texts, and the
-//! file `stdout` has what is to be told of each. A row crosses the lexer, the parser and the check.
+//! file `stdout` has what is to be told of each. A row crosses the lexer, the parser and the check. What the lines of a
+//! table are stands in `sk_tables`.
 //!
-//! A line of the table is one of these, where `\n` in a text stands for the end of a line:
+//! What may be asked of a text:
 //!
-//! - `ask faults`, `ask inputs`, `ask numbers`: what is asked of the rows that follow.
-//! - `frame`: the rows that follow stand alone. `before TEXT` and `after TEXT` add to the texts that they stand between.
-//! - `row TEXT`: a row. The answer is printed, and the text behind it.
-//! - Anything else is a heading, which is printed as it is.
-//!
-//! - `table`: lines of the table.
-//! - `answers`: what the front end answers for a text.
+//! - `faults`: the fault that is told of it, if it is no typed program.
+//! - `inputs`: the inputs of a typed program.
+//! - `numbers`: the number of the function of that name, in the program that stands around.
 #![tactic(auto)]
 
 mod answers;
-mod table;
 
+use answers::Typing;
+use sk_tables::print_answers;
 use std::io;
-use table::Table;
 
 fn main(rt: HostRuntime) -> io::Result<()> {
-    let mut table = Table::new(rt.alloc());
-    for line in rt.lines(rt.alloc()) {
-        if let Some(text) = table.read(rt.alloc(), line?.as_str())? {
-            println!(rt; "{text}")?;
-        }
-    }
-    Ok(())
+    print_answers(&rt, &mut Typing)
 }

@@ -1,5 +1,0 @@
-use Rattle.sk_machine_rows.proofs.Taking.{dividing-takes}
-use Rattle.sk_machine_rows.proofs.calls.dividing.Goals as goal
-
-pub returns : goal.returns
-returns c = dividing-takes

@@ -1,0 +1,30 @@
+-- How the functions of the program are run.
+use Rattle.std.specs.Prelude.{◌≡◌, ℕ, ◌<◌, false, replicate}
+use Rattle.sk_base.specs.declared.number.Ty.TheVariants.{Int}
+use Rattle.sk_tree.specs.declared.tree.ParamKind.TheVariants.{Scalar}
+use Rattle.sk_isa.specs.Objects.{signature_at}
+use Rattle.sk_scheme.specs.Plans.{functions_object}
+use Rattle.sk_isa.specs.SoundObjects.{HasSoundFunctions, TakesScalars}
+use Rattle.sk_isa.specs.declared.object.Object.{Object}
+use Rattle.sk_vm.specs.Frames.{Framed, HasRoom, reading_by}
+use Rattle.sk_vm_rows.specs.Programs.{rows_program}
+
+-- the compiled program
+unfoldable pub rows_object : Object
+rows_object = functions_object rows_program
+
+pub record IsCompiled (object : Object) : Type 0 where
+  pub same : object ≡ rows_object
+  pub sound : HasSoundFunctions object
+  pub scalars : TakesScalars object
+
+-- a function before main that takes so many ints
+pub record TakesInts (count function : ℕ) : Type 0 where
+  pub there : function < 7
+  pub params : (signature_at rows_object function).params ≡ replicate count (Scalar Int)
+
+-- a frame with room for a function that reads the first parameter by elements, and the others as uniform arguments
+pub record IsReady (object : Object) (function : ℕ) (frame : Framed) : Type 0 where
+  pub room : HasRoom object frame
+  pub called : frame.function ≡ function
+  pub reading : frame.reading ≡ reading_by 1 false

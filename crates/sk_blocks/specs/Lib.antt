@@ -1,3 +1,4 @@
+pub mod Choices
 pub mod Kernels
 pub mod Needs
 pub mod Ranges

@@ -2,10 +2,12 @@
 use Rattle.std.specs.Prelude.{◌≡◌, ℕ, Bool, List, [], ◌∷◌, length, All}
 use Rattle.sk_base.specs.Arithmetic.{InRange}
 use Rattle.sk_base.specs.Shape.{IsShape, cells_of}
+use Rattle.sk_grammar.specs.Grammar.{IsFromText}
 use Rattle.sk_isa.specs.declared.object.Object.{Object}
 use Rattle.sk_main_code.specs.MainSteps.{coded_of}
 use Rattle.sk_main_run.specs.MainRun.{run_of_program}
 use Rattle.sk_main_scheme.specs.Objects.{StandsFor, object_of}
+use Rattle.sk_plain.specs.Means.{MeansSource}
 use Rattle.sk_tree.specs.declared.declared.Declared.{Declared}
 use Rattle.sk_tree.specs.declared.tree.Program.{Program}
 use Rattle.sk_typing.specs.Typing.{IsTyped}
@@ -39,12 +41,21 @@ RunsAs object program =
     (inputs : List Input) → AnswerAll object.inputs inputs → (bound : ℕ) (dump : Bool)
     → IsSameRun (coded_of object inputs bound dump) (run_of_program program inputs bound dump)
 
--- each object that stands for a typed program runs as the program
-abbrev pub ObjectsRunAsSource : Type 0
-ObjectsRunAsSource = (program : Program) (object : Object) → IsTyped program → StandsFor object program → RunsAs object program
+-- a text has the program, which keeps the rules of names and types
+pub record IsProgram (program : Program) : Type 0 where
+  pub from_text : IsFromText program
+  pub typed : IsTyped program
 
--- the object of a typed program tells the same events too
+-- each object that stands for a program runs as the program
+abbrev pub ObjectsRunAsSource : Type 0
+ObjectsRunAsSource = (program : Program) (object : Object) → IsProgram program → StandsFor object program → RunsAs object program
+
+-- and its functions have the values of their source
+abbrev pub ObjectsMeanSource : Type 0
+ObjectsMeanSource = (program : Program) (object : Object) → IsProgram program → StandsFor object program → MeansSource program object
+
+-- the object of a program tells the same events too
 abbrev pub ObjectsTellAsSource : Type 0
 ObjectsTellAsSource =
-    (program : Program) → IsTyped program → (inputs : List Input) → AnswerAll (object_of program).inputs inputs → (bound : ℕ) (dump : Bool)
+    (program : Program) → IsProgram program → (inputs : List Input) → AnswerAll (object_of program).inputs inputs → (bound : ℕ) (dump : Bool)
     → (coded_of (object_of program) inputs bound dump).events ≡ (run_of_program program inputs bound dump).events

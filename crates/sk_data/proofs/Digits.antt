@@ -14,7 +14,7 @@ pub record IsRead (text : List ℕ) (count value : ℕ) : Type 0 where
   pub digits : all_ascii_digits (take count text) ≡ true
   pub capped : value ≡ min (digits_value 10 (take count text)) (2 ^ 64 - 1)
 
-digit_value-digit : (c : ℕ) → is_ascii_digit c ≡ true → digit_value c ≡ c - 48
+pub digit_value-digit : (c : ℕ) → is_ascii_digit c ≡ true → digit_value c ≡ c - 48
 digit_value-digit c is = grind (arith, nat_tests)
 
 digits-take_more : (text : List ℕ) (i : ℕ) → i < length text → all_ascii_digits (take i text) ≡ true
@@ -26,7 +26,7 @@ digits-take_more (c ∷ cs) (suc i) below so_far is =
     and_from (is_ascii_digit c) (all_ascii_digits (take (suc i) cs)) parts.0 (digits-take_more cs i (omega arith) parts.1 is)
 
 -- a cap on the number so far does not show in the capped number after it
-capped_more : (n d k : ℕ) → min (min (min n (2 ^ 64 - 1) * 10) (2 ^ 64 - 1) + d) (2 ^ 64 - 1) ≡ min (n * 10 + d) (2 ^ 64 - 1)
+pub capped_more : (n d k : ℕ) → min (min (min n (2 ^ 64 - 1) * 10) (2 ^ 64 - 1) + d) (2 ^ 64 - 1) ≡ min (n * 10 + d) (2 ^ 64 - 1)
 capped_more n d k = omega arith
 
 -- one digit more

@@ -1,12 +1,16 @@
 pub mod Digits
 pub mod Fields
+pub mod FieldsRead
 pub mod GivenBack
 pub mod Joins
+pub mod KeptBytes
 pub mod NamesKept
 pub mod NumbersBack
+pub mod NumbersRead
 pub mod Places
 pub mod ReadingOn
 pub mod RecordsBack
+pub mod Short
 pub mod SizesRead
 pub mod Slots
 pub mod Suited

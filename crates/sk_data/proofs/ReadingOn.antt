@@ -1,15 +1,18 @@
--- A reader of records over bytes in memory: what one read does to the records that are left.
-use Rattle.std.proofs.Common.{◌≡◌, ℕ, zero, suc, ◌+◌, ◌<◌, ◌≤◌, ◌++◌, ◌∷◌, [], List, Bool, true, false, length, refl, sym, ap, ◌∙◌, arith, inl, inr, subst}
-use Rattle.std.proofs.lemmas.Bool.{cases_Bool, false≢true}
+-- The records that are left of a text: what one record takes of them.
+use Rattle.std.proofs.Common.{◌≡◌, ℕ, zero, suc, ◌+◌, ◌<◌, ◌≤◌, ◌++◌, ◌∷◌, [], List, Bool, true, false, length, refl, sym, ap, ◌∙◌, arith, add-one, inl, inr, subst, drop, get_or}
+use Rattle.std.proofs.Math.Seq.{drop-cons}
+use Rattle.std.proofs.lemmas.Bool.{cases_Bool, false≢true, ne_eqb}
 use Rattle.std.specs.Prelude.{Option, Some, None, ◌==◌, ◌||◌, if◌then◌else◌}
-use Rattle.std.specs.Borrow.{Bor}
 use Rattle.csv.specs.Machine.{Read, ends_at_end, after_end, field_after, fields_after, in_field, start_field, start_record, is_end, next_record, step}
-use Rattle.csv.specs.Reading.{Reached, ReadRecord, default_config, is_bom, is_flexible, records_from, records_next, reader_state, strip_bom, took_first}
+use Rattle.csv.specs.Reading.{default_config, is_bom, records_from, records_next, strip_bom}
+use Rattle.csv.specs.declared.parser.Action.TheVariants as act
 use Rattle.csv.specs.declared.parser.State.{State}
 use Rattle.csv.specs.declared.parser.State.TheVariants as st
 use Rattle.csv.specs.declared.parser.Terminator.TheVariants as term
-use Rattle.csv.proofs.ReadFacts.{rows-more, rows-end}
-use Rattle.sk_data.specs.Reading.{IsReading, TextReader, records_between, records_from_left, records_left}
+use Rattle.sk_data.proofs.FieldsRead.{IsFound, found_at}
+use Rattle.sk_data.specs.declared.machine.Place.TheVariants.{Start}
+use Rattle.sk_data.specs.Reading.{IsAtRecord, is_marked, records_between, records_left}
+use Rattle.sk_data.specs.Fields.{fields_at, fields_read, rest_at, rest_read}
 use Rattle.sk_data.specs.Records.{Record, records_of}
 
 after_between : (c : ℕ) → ends_at_end (after_end term.CRLF c) ≡ false
@@ -200,41 +203,145 @@ records_few bytes =
     let few = records_from-few (length (strip_bom bytes) + 1) st.StartRecord (strip_bom bytes) refl in
     let stripped = strip_bom-few bytes in omega arith
 
--- a read of a record
-pub read_more : (old new : TextReader) (fields : Record) → IsReading old → took_first new ≡ true → is_flexible new ≡ is_flexible old
-    → ReadRecord (λ bytes. Some bytes.now) old new true fields → IsReading new × (records_left old ≡ fields ∷ records_left new)
-unfolding Reached
-read_more old new fields reading took flexible read =
-    let more = rows-more (λ (bytes : Bor (List ℕ)). Some bytes.now) old new fields default_config (reader_state old) reading.rest reading.rest [] reading.default reading.known (refl, refl) read in
-    let rest = more.0 in
-    let known = more.1 in
-    let p = more.2.0 in
-    let next = more.2.1 in
-    let is = more.2.2 in
-    let state = more.2.3.0 in
-    let left = more.2.3.1 in
-    let behind_it = next_behind (reader_state old) [] [] reading.rest p next in
-    let first = records_some (reader_state old) reading.rest p reading.between next in
-    let from_old : records_left old ≡ records_between (reader_state old) reading.rest = ap (records_from_left (reader_state old)) reading.known in
-    let from_new : records_left new ≡ records_between (reader_state new) rest = ap (records_from_left (reader_state new)) known in
-    let same : records_between p.1 p.2 ≡ records_between (reader_state new) rest =
-    ap (λ s. records_between s p.2) state ∙ ap (records_between (reader_state new)) left in (
-      record {
-        untrimmed = read.3 ∙ reading.untrimmed;
-        ready = inl took;
-        default = read.2 ∙ reading.default;
-        flexible = flexible ∙ reading.flexible;
-        between = ap ends_at_end (sym state) ∙ behind_it.between;
-        rest = rest;
-        known = known;
-      },
-      from_old ∙ first ∙ ap (λ (f : Record). f ∷ records_between p.1 p.2) (sym is) ∙ ap (λ (r : List Record). fields ∷ r) (same ∙ sym from_new),
-    )
+-- what the next record of two texts is settles the records that are left
+records_same : (s t : State) (xs ys : List ℕ) → ends_at_end s ≡ false → ends_at_end t ≡ false
+    → next_record default_config s [] [] xs ≡ next_record default_config t [] [] ys → records_between s xs ≡ records_between t ys
+records_same s t xs ys one other same = by (next_record default_config t [] [] ys) refl
+  where
+    by : (o : Option Read) → next_record default_config t [] [] ys ≡ o → records_between s xs ≡ records_between t ys
+    by None is = records_none s xs (same ∙ is) ∙ sym (records_none t ys is)
+    by (Some p) is = records_some s xs p one (same ∙ is) ∙ sym (records_some t ys p other is)
 
--- a read that finds no record
-pub read_end : (old new : TextReader) (fields : Record) → IsReading old
-    → ReadRecord (λ bytes. Some bytes.now) old new false fields → records_left old ≡ []
-read_end old new fields reading read =
-    let none = rows-end (λ (bytes : Bor (List ℕ)). Some bytes.now) old new fields default_config reading.rest reading.default reading.known read in
-    let from_old : records_left old ≡ records_between (reader_state old) reading.rest = ap (records_from_left (reader_state old)) reading.known in
-    from_old ∙ records_none (reader_state old) reading.rest none
+-- the end of a line in front of a text
+line_end : (c : ℕ) → ((c == 13) || (c == 10)) ≡ true → step default_config st.StartRecord c ≡ (st.StartRecord, act.Skip)
+line_end c is = rw is refl
+
+pub ends_passed : (c : ℕ) (rest : List ℕ) → ((c == 13) || (c == 10)) ≡ true → records_left (c ∷ rest) ≡ records_left rest
+unfolding next_record
+ends_passed c rest is = records_same st.StartRecord st.StartRecord (c ∷ rest) rest refl refl (rw (line_end c is) refl)
+
+-- a byte that ends no line stands in front of a field
+pub starts_field : (c : ℕ) (rest : List ℕ) → ((c == 13) || (c == 10)) ≡ false
+    → next_record default_config st.StartRecord [] [] (c ∷ rest) ≡ next_record default_config st.StartField [] [] (c ∷ rest)
+unfolding next_record
+starts_field c rest is = rw is refl
+
+-- behind a carriage return the records are those of the start of a line
+after_cr : (c : ℕ) → step default_config st.AfterCr c ≡ step default_config st.StartRecord c
+after_cr c = elim (cases_Bool (c == 10)) [
+  | inl lf ↦ rw lf (elim (cases_Bool (c == 13)) [
+    | inl cr ↦ rw cr refl
+    | inr other ↦ rw other refl
+  ])
+  | inr other ↦ rw other refl
+]
+
+next_after_cr : (xs : List ℕ) → next_record default_config st.AfterCr [] [] xs ≡ next_record default_config st.StartRecord [] [] xs
+unfolding next_record
+next_after_cr [] = refl
+next_after_cr (c ∷ rest) = rw (after_cr c) refl
+
+records_after : (s : State) (xs : List ℕ) → ends_at_end s ≡ false → records_between s xs ≡ records_left xs
+records_after st.StartRecord xs between = refl
+records_after st.AfterCr xs between = records_same st.AfterCr st.StartRecord xs xs refl refl (next_after_cr xs)
+records_after st.StartField xs between = absurd (false≢true (sym between))
+records_after st.InField xs between = absurd (false≢true (sym between))
+records_after st.InQuoted xs between = absurd (false≢true (sym between))
+records_after st.AfterQuote xs between = absurd (false≢true (sym between))
+records_after st.InEscape xs between = absurd (false≢true (sym between))
+records_after st.InComment xs between = absurd (false≢true (sym between))
+
+-- the record in front of a text, and those that are left behind it
+pub record Leaves (text : List ℕ) : Type 0 where
+  pub next : records_left text ≡ fields_at text ∷ records_left (rest_at text)
+  pub fewer : length (rest_at text) < length text
+
+some_next : (c : ℕ) (rest : List ℕ) (p : Read) → next_record default_config st.StartRecord [] [] (c ∷ rest) ≡ Some p
+    → next_record default_config st.StartField [] [] (c ∷ rest) ≡ Some p → Leaves (c ∷ rest)
+some_next c rest p at_start at_field =
+    let after = next_behind st.StartRecord [] [] (c ∷ rest) p at_start in
+    let shorter = next_shorter st.StartRecord (c ∷ rest) p refl at_start in
+    let fields : fields_at (c ∷ rest) ≡ p.0 = ap fields_read at_field in
+    let behind : rest_at (c ∷ rest) ≡ p.2 = ap rest_read at_field in
+    record {
+      next =
+          records_some st.StartRecord (c ∷ rest) p refl at_start ∙ ap (λ more. p.0 ∷ more) (records_after p.1 p.2 after.between)
+          ∙ ap (λ (f : Record). f ∷ records_left p.2) (sym fields) ∙ ap (λ (xs : List ℕ). fields_at (c ∷ rest) ∷ records_left xs) (sym behind);
+      fewer = let same = ap length behind in omega (arith, same, shorter);
+    }
+
+pub record_leaves : (text : List ℕ) → 0 < length text → IsAtRecord text → Leaves text
+record_leaves [] some starts = absurd (omega arith)
+record_leaves (c ∷ rest) some starts =
+    by (next_record default_config st.StartField [] [] (c ∷ rest)) refl (found_at Start [] [] (c ∷ rest))
+  where
+    by : (o : Option Read) → next_record default_config st.StartField [] [] (c ∷ rest) ≡ o → IsFound o → Leaves (c ∷ rest)
+    by None is found = absurd found
+    by (Some p) is found = some_next c rest p (starts some ∙ is) is
+
+-- a text without a byte has no records left
+pub nothing_left : (text : List ℕ) → length text ≤ 0 → records_left text ≡ []
+unfolding next_record
+nothing_left [] none = records_none st.StartRecord [] refl
+nothing_left (c ∷ rest) none = absurd (omega arith)
+
+-- the ends of lines in front of a text were passed up to this place
+pub record IsPassed (text : List ℕ) (at : ℕ) : Type 0 where
+  pub left : records_left (drop at text) ≡ records_left text
+
+pub end_more : (text : List ℕ) (at : ℕ) → at < length text → ((get_or text at 0 == 13) || (get_or text at 0 == 10)) ≡ true
+    → IsPassed text at → IsPassed text (at + 1)
+end_more text at below is passed = record {
+  left =
+      let here : drop at text ≡ get_or text at 0 ∷ drop (at + 1) text = rw add-one (drop-cons text at 0 below) in
+      sym (ends_passed (get_or text at 0) (drop (at + 1) text) is) ∙ ap records_left (sym here) ∙ passed.left;
+}
+
+pub record_here : (text result : List ℕ) (at : ℕ) → at < length text → ((get_or text at 0 == 13) || (get_or text at 0 == 10)) ≡ false
+    → result ≡ drop at text → IsAtRecord result
+record_here text result at below is same =
+    let here : result ≡ get_or text at 0 ∷ drop (at + 1) text = same ∙ rw add-one (drop-cons text at 0 below) in
+    subst IsAtRecord (sym here) (λ some. starts_field (get_or text at 0) (drop (at + 1) text) is)
+
+-- the byte order mark in front of a text
+pub marked_at : (bytes : List ℕ) → 3 ≤ length bytes → is_marked bytes ≡ is_bom (get_or bytes 0 0) (get_or bytes 1 0) (get_or bytes 2 0)
+marked_at [] some = absurd (omega arith)
+marked_at (a ∷ []) some = absurd (omega arith)
+marked_at (a ∷ b ∷ []) some = absurd (omega arith)
+marked_at (a ∷ b ∷ c ∷ rest) some = refl
+
+pub few_bare : (bytes : List ℕ) → length bytes < 3 → is_marked bytes ≡ false
+few_bare [] few = refl
+few_bare (a ∷ []) few = refl
+few_bare (a ∷ b ∷ []) few = refl
+few_bare (a ∷ b ∷ c ∷ rest) few = absurd (omega arith)
+
+pub marked_long : (bytes : List ℕ) → is_marked bytes ≡ true → 3 ≤ length bytes
+marked_long [] is = absurd (false≢true is)
+marked_long (a ∷ []) is = absurd (false≢true is)
+marked_long (a ∷ b ∷ []) is = absurd (false≢true is)
+marked_long (a ∷ b ∷ c ∷ rest) is = omega arith
+
+pub marked_stripped : (bytes : List ℕ) → is_marked bytes ≡ true → drop 3 bytes ≡ strip_bom bytes
+unfolding strip_bom
+marked_stripped [] is = absurd (false≢true is)
+marked_stripped (a ∷ []) is = absurd (false≢true is)
+marked_stripped (a ∷ b ∷ []) is = absurd (false≢true is)
+marked_stripped (a ∷ b ∷ c ∷ rest) is = rw is refl
+
+pub bare_stripped : (bytes : List ℕ) → is_marked bytes ≡ false → bytes ≡ strip_bom bytes
+unfolding strip_bom
+bare_stripped [] is = refl
+bare_stripped (a ∷ []) is = refl
+bare_stripped (a ∷ b ∷ []) is = refl
+bare_stripped (a ∷ b ∷ c ∷ rest) is = rw is refl
+
+-- the bytes that end a line, and others
+pub ends_lf : (c : ℕ) → c ≡ 10 → ((c == 13) || (c == 10)) ≡ true
+ends_lf c is = rw is refl
+
+pub ends_cr : (c : ℕ) → c ≡ 13 → ((c == 13) || (c == 10)) ≡ true
+ends_cr c is = rw is refl
+
+pub ends_none : (c : ℕ) → (c ≡ 13 → ⊥) → (c ≡ 10 → ⊥) → ((c == 13) || (c == 10)) ≡ false
+ends_none c not_cr not_lf = rw (ne_eqb c 13 not_cr, ne_eqb c 10 not_lf) refl

@@ -1,7 +1,13 @@
 pub mod Decimals
+pub mod Fields
 pub mod Held
+pub mod Keeping
+pub mod Machine
 pub mod Reading
 pub mod ReadsBack
+pub mod RecordHeld
+pub mod RecordText
 pub mod Records
 pub mod Sizes
+pub mod Spelt
 pub mod Suits

@@ -1,39 +1,29 @@
--- A reader of records over bytes in memory, and the records that it has left.
-use Rattle.std.specs.Prelude.{◌≡◌, ℕ, ◌+◌, true, false, List, [], length, Option, Some, None}
-use Rattle.std.specs.Borrow.{Bor}
-use Rattle.csv.specs.Machine.{ends_at_end}
-use Rattle.csv.specs.Reading.{Ready, default_config, is_flexible, reader_config, reader_state, reader_trim, records_from, source_of}
+-- The records that are left of a text, between two records.
+use Rattle.std.specs.Prelude.{◌≡◌, ℕ, ◌+◌, ◌<◌, ◌≤◌, Bool, false, List, [], ◌∷◌, length, All}
+use Rattle.csv.specs.Machine.{next_record}
+use Rattle.csv.specs.Reading.{default_config, is_bom, records_from}
 use Rattle.csv.specs.declared.parser.State.{State}
-use Rattle.csv.specs.declared.reader.Reader.{Reader}
-use Rattle.csv.specs.declared.reader.Trim.TheVariants as trim
+use Rattle.csv.specs.declared.parser.State.TheVariants as st
+use Rattle.sk_tree.specs.declared.declared.Declared.{Declared}
 use Rattle.sk_data.specs.Records.{Record}
-
-abbrev pub TextReader : Type 0
-TextReader = Reader (Bor (List ℕ))
-
--- the bytes that a reader has left, where it has not failed
-abbrev pub bytes_left : TextReader → Option (List ℕ)
-bytes_left reader = source_of (λ bytes. Some bytes.now) reader
 
 -- the records of the rest of a text, from a state between two records
 abbrev pub records_between : State → List ℕ → List Record
 records_between state rest = records_from default_config (length rest + 1) state rest
 
--- the same, of a rest that may not be known
-abbrev pub records_from_left : State → Option (List ℕ) → List Record
-records_from_left state None = []
-records_from_left state (Some rest) = records_between state rest
+-- the same, at the start of a line
+abbrev pub records_left : List ℕ → List Record
+records_left rest = records_between st.StartRecord rest
 
-abbrev pub records_left : TextReader → List Record
-records_left reader = records_from_left (reader_state reader) (bytes_left reader)
+-- where a text has a byte, the first field of a record stands in front of it
+abbrev pub IsAtRecord : List ℕ → Type 0
+IsAtRecord text = 0 < length text → next_record default_config st.StartRecord [] [] text ≡ next_record default_config st.StartField [] [] text
 
--- The reader has not failed, stands between two records, and reads with the defaults of the crate, but for a header and
--- for the length of records.
-pub record IsReading (reader : TextReader) : Type 0 where
-  pub untrimmed : reader_trim reader ≡ trim.None
-  pub ready : Ready reader
-  pub default : reader_config reader ≡ default_config
-  pub flexible : is_flexible reader ≡ true
-  pub between : ends_at_end (reader_state reader) ≡ false
-  pub rest : List ℕ
-  pub known : bytes_left reader ≡ Some rest
+-- no declared name is longer
+abbrev pub NamesFit : List Declared → (most : ℕ) → Type 0
+NamesFit declared most = All (λ input. length input.name ≤ most) declared
+
+-- a byte order mark stands in front of a text
+abbrev pub is_marked : List ℕ → Bool
+is_marked (a ∷ b ∷ c ∷ rest) = is_bom a b c
+is_marked _ = false

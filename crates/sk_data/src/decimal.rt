@@ -1,5 +1,6 @@
-ghost use Rattle.std.specs.Prelude.{◌≡◌, ◌++◌, ◌-◌, ◌^◌, ◌≤◌, ◌<◌, min, OnOk, option_map, if◌then◌else◌, nat_lt, nat_le, pos, neg_ℤ, slice_index, ◌==◌, true, length};
-ghost use Rattle.sk_data.specs.Decimals.{minus, natural_of, whole_number_within};
+//! Whole numbers in decimal digits, read and written whole.
+ghost use Rattle.std.specs.Prelude.{◌≡◌, ◌++◌, ◌-◌, ◌^◌, min, OnOk, option_map};
+ghost use Rattle.sk_data.specs.Decimals.{natural_of};
 
 use itoa::{Buffer, Integer};
 use std::alloc::AllocError;
@@ -22,50 +23,6 @@ pub fn natural(text: &[u8]) -> Option<u64>
             .saturating_add(u64::from(*byte - b'0'));
     }
     Some(value)
-}
-
-/// The number that an optional minus and one decimal digit or more write, if it is at least `-bound` and below `bound`.
-/// Needless zeros and `-0` are read.
-pub fn whole_number(text: &[u8], bound: u64) -> Option<i64>
-    requires { (0 < bound) × (bound ≤ 2 ^ 63) }
-    ensures { result ≡ whole_number_within bound text.now }
-{
-    if begins_with_minus(text) {
-        let magnitude = natural(&text[1..])?;
-        negative(magnitude, bound)
-    } else {
-        let magnitude = natural(text)?;
-        positive(magnitude, bound)
-    }
-}
-
-fn begins_with_minus(text: &[u8]) -> bool
-    ensures value { result ≡ (slice_index text.now 0 == minus) }
-    ensures some { result ≡ true → 0 < length text.now }
-{
-    !text.is_empty() && text[0] == b'-'
-}
-
-fn positive(magnitude: u64, bound: u64) -> Option<i64>
-    requires { bound ≤ 2 ^ 63 }
-    ensures { result ≡ (if nat_lt magnitude bound then Some (pos magnitude) else None) }
-{
-    if magnitude < bound {
-        Some(magnitude as i64)
-    } else {
-        None
-    }
-}
-
-fn negative(magnitude: u64, bound: u64) -> Option<i64>
-    requires { bound ≤ 2 ^ 63 }
-    ensures { result ≡ (if nat_le magnitude bound then Some (neg_ℤ (pos magnitude)) else None) }
-{
-    if magnitude <= bound {
-        Some(-i128::from(magnitude) as i64)
-    } else {
-        None
-    }
 }
 
 /// Appends a number in decimal digits, with a minus where it is below 0.

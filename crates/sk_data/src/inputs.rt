@@ -1,6 +1,7 @@
 ghost use Rattle.std.specs.Prelude.{◌≡◌, ◌≢◌, ◌++◌, ◌∷◌, [], List, IfOk, IfErr, OnOk, None, Some, Ok, Err, ◌<◌, length, map, position, slice_index_or, slice_set};
-ghost use Rattle.csv.specs.Records.{fields_of};
 ghost use Rattle.sk_data.specs.Held.{IsGivenBy, given_in};
+ghost use Rattle.sk_data.specs.Reading.{NamesFit};
+ghost use Rattle.sk_data.specs.RecordText.{fields_of, most_of};
 ghost use Rattle.sk_data.specs.Records.{HaveDistinctNames, Record, given_to, is_named, record_fault};
 ghost use Rattle.sk_data.specs.declared.fault.InputFault.TheVariants as fault;
 
@@ -8,7 +9,7 @@ use crate::fault::InputFault;
 use crate::given::Given;
 use crate::judged::{copy_of, read_given};
 use crate::names::Names;
-use csv::ByteRecord;
+use crate::record::TextRecord;
 use sk_tree::Declared;
 use std::alloc::{AllocError, Global};
 use std::marker::Model;
@@ -51,7 +52,13 @@ impl<'a> Inputs<'a> {
     }
 
     /// Takes the next record, whose number is `row`, or tells its fault, after which nothing was taken.
-    pub fn take(&mut self, alloc: Global, row: u32, fields: &ByteRecord) -> Result<(), InputFault>
+    pub fn take(
+        &mut self,
+        alloc: Global,
+        row: u32,
+        fields: &TextRecord<'_>,
+    ) -> Result<(), InputFault>
+        requires { NamesFit self.old.declared (most_of fields.now) }
         ensures declared { self.new.declared ≡ self.old.declared }
         ensures taken { OnOk result ((earlier : List Record) → IsGivenBy earlier self.old
             → IsGivenBy (earlier ++ fields_of fields.now ∷ []) self.new) }
@@ -78,10 +85,11 @@ impl<'a> Inputs<'a> {
     }
 
     /// The place of the input that a record names.
-    fn place(&self, fields: &ByteRecord) -> Option<usize>
+    fn place(&self, fields: &TextRecord<'_>) -> Option<usize>
+        requires { NamesFit self.now.declared (most_of fields.now) }
         ensures { result ≡ position (λ input. is_named input.name (fields_of fields.now)) self.now.declared }
     {
-        match fields.get(0) {
+        match fields.name() {
             Some(name) => self.names.place(name),
             None => None,
         }

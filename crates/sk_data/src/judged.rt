@@ -1,13 +1,13 @@
 ghost use Rattle.std.specs.Prelude.{◌≡◌, ◌≢◌, IfOk, IfErr, None, Some};
-ghost use Rattle.csv.specs.Records.{fields_of};
+ghost use Rattle.sk_data.specs.RecordText.{fields_of};
 ghost use Rattle.sk_data.specs.Records.{form_fault, given_by, shape_given};
 ghost use Rattle.sk_data.specs.declared.fault.InputFault.TheVariants as fault;
 
 use crate::fault::{InputFault, Memory};
 use crate::given::Given;
 use crate::numbers::read_values;
+use crate::record::TextRecord;
 use crate::sizes::read_shape;
-use csv::ByteRecord;
 use sk_base::Shape;
 use sk_names::Text;
 use sk_tree::Declared;
@@ -18,7 +18,7 @@ pub fn read_given(
     alloc: Global,
     input: &Declared,
     row: u32,
-    fields: &ByteRecord,
+    fields: &TextRecord<'_>,
 ) -> Result<Given, InputFault>
     ensures given { IfOk result (λ given. given ≡ given_by input.now (fields_of fields.now)) }
     ensures faultless { IfOk result (λ given. form_fault input.now row (fields_of fields.now) ≡ None) }
@@ -39,12 +39,13 @@ pub fn read_given(
 fn read_given_shape(
     alloc: Global,
     input: &Declared,
-    fields: &ByteRecord,
+    fields: &TextRecord<'_>,
 ) -> Result<Option<Shape>, Memory>
     ensures { IfOk result (λ shape. shape ≡ shape_given input.now (fields_of fields.now)) }
 {
-    match fields.get(1) {
-        Some(text) => read_shape(alloc, text, input.kind),
+    let kind = input.kind;
+    match fields.shape() {
+        Some(text) => read_shape(alloc, text, kind),
         None => Ok(None),
     }
 }

@@ -1,36 +1,32 @@
-ghost use Rattle.std.specs.Prelude.{◌≡◌, ◌∷◌, [], IfOk, true, false};
-ghost use Rattle.csv.specs.Records.{fields_of};
-ghost use Rattle.sk_data.specs.Records.{records_of};
-ghost use Rattle.sk_data.specs.Reading.{IsReading, records_left};
+//! The records of a text, one after another.
+ghost use Rattle.std.specs.Prelude.{◌≡◌, ◌≤◌, length};
+ghost use Rattle.csv.specs.Reading.{strip_bom};
+ghost use Rattle.sk_data.specs.Reading.{IsAtRecord, is_marked, records_left};
 
-use crate::fault::Memory;
-use csv::{ByteRecord, ErrorKind, Reader, ReaderBuilder};
-use std::alloc::Global;
-
-/// A reader of the records of a text: no header, and records of any length.
-pub fn reader(alloc: Global, bytes: &[u8]) -> Reader<&[u8]>
-    ensures reading { IsReading result }
-    ensures all { records_left result ≡ records_of bytes.now }
+/// A text without the byte order mark that may stand in front of it.
+pub fn without_mark(bytes: &[u8]) -> &[u8]
+    ensures { result.now ≡ strip_bom bytes.now }
 {
-    ReaderBuilder::new()
-        .has_headers(false)
-        .flexible(true)
-        .from_reader(alloc, bytes)
+    if has_mark(bytes) { &bytes[3..] } else { bytes }
 }
 
-/// The next record, and whether there is one. A reader over bytes in memory has no fault of its own; where it tells one
-/// all the same, it is want of memory.
-pub fn next_record(reader: &mut Reader<&[u8]>, fields: &mut ByteRecord) -> Result<bool, Memory>
-    requires { IsReading reader.old }
-    ensures reading { IfOk result (λ found. found ≡ true → IsReading reader.new) }
-    ensures record { IfOk result (λ found. found ≡ true → records_left reader.old ≡ fields_of fields.new ∷ records_left reader.new) }
-    ensures end { IfOk result (λ found. found ≡ false → records_left reader.old ≡ []) }
+/// Whether a byte order mark stands in front of a text.
+fn has_mark(bytes: &[u8]) -> bool
+    ensures { result ≡ is_marked bytes.now }
 {
-    match reader.read_byte_record(fields) {
-        Ok(found) => Ok(found),
-        Err(error) => match error.into_kind() {
-            ErrorKind::Io(_) | ErrorKind::OutOfMemory => Err(Memory),
-            _ => unreachable!(),
-        },
+    bytes.len() >= 3 && bytes[0] == 0xef && bytes[1] == 0xbb && bytes[2] == 0xbf
+}
+
+/// A text without the ends of lines in front of it.
+pub fn at_record(text: &[u8]) -> &[u8]
+    ensures same { records_left result.now ≡ records_left text.now }
+    ensures starts { IsAtRecord result.now }
+    ensures shorter { length result.now ≤ length text.now }
+{
+    'ends: for at in 0..text.len() {
+        if text[at] != b'\r' && text[at] != b'\n' {
+            return &text[at..];
+        }
     }
+    &text[text.len()..]
 }

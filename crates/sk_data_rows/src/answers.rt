@@ -2,7 +2,7 @@
 use crate::distinct::names_differ;
 use sk_data::{Dumped, Given, InputFault, dump, input};
 use sk_names::Text;
-use sk_row_texts::push_bytes;
+use sk_tables::push_bytes;
 use sk_tree::Declared;
 use std::alloc::{AllocError, Global};
 use std::fmt::Write;

@@ -2,7 +2,7 @@
 use sk_base::{Cell, Shape, Ty};
 use sk_data::{Cells, Dumped};
 use sk_names::{Name, Text};
-use sk_row_texts::bytes_of;
+use sk_tables::{bytes_of, word_of};
 use sk_tree::Declared;
 use std::alloc::{AllocError, Global};
 
@@ -25,11 +25,6 @@ fn input_of(alloc: Global, text: &str) -> Result<Declared, AllocError> {
         kind: kind_of(kind),
         ty: type_of(ty),
     })
-}
-
-/// The first word of a text, and the rest.
-pub fn word_of(text: &str) -> (&str, &str) {
-    text.split_once(' ').unwrap_or((text, ""))
 }
 
 /// How many sizes a kind has: one, unless the word is another kind's.

@@ -1,8 +1,7 @@
 //! Rows of inputs and dumps that were worked out by hand, as data: the file `stdin` is a table of texts and containers, and
 //! the file `stdout` has what is to be told of each.
 //!
-//! A line of the table is one of these. In a text and in a name `\n`, `\r` and `\t` stand for one byte each, and `\x` with
-//! two digits of base 16 for the byte of that number.
+//! A line of the table is one of these. How a text and a name are written stands in `sk_tables`.
 //!
 //! - `inputs NAME KIND TYPE, NAME KIND TYPE ..`: the inputs that are declared for the rows that follow.
 //! - `row TEXT`: a row. What the inputs are given is printed, or the fault, and the text behind it.
@@ -21,15 +20,11 @@ mod distinct;
 mod lines;
 mod table;
 
+use sk_tables::print_told;
 use std::io;
 use table::Table;
 
 fn main(rt: HostRuntime) -> io::Result<()> {
     let mut table = Table::new(rt.alloc());
-    for line in rt.lines(rt.alloc()) {
-        if let Some(text) = table.read(rt.alloc(), line?.as_str())? {
-            println!(rt; "{text}")?;
-        }
-    }
-    Ok(())
+    print_told(&rt, &mut table)
 }

@@ -1,8 +1,8 @@
 //! Lines of the table.
 use crate::answers::{outcome, text_of};
-use crate::lines::{container_of, inputs_of, word_of};
+use crate::lines::{container_of, inputs_of};
 use sk_data::Dumped;
-use sk_row_texts::{bytes_of, push_bytes};
+use sk_tables::{Teller, bytes_of, push_bytes, word_of};
 use sk_tree::Declared;
 use std::alloc::{AllocError, Global};
 
@@ -16,18 +16,8 @@ pub struct Table {
     declared: Vec<Declared>,
 }
 
-impl Table {
-    /// No inputs, and no containers.
-    pub fn new(alloc: Global) -> Table {
-        Table {
-            inputs: Vec::new(alloc),
-            containers: Vec::new(alloc),
-            declared: Vec::new(alloc),
-        }
-    }
-
-    /// Reads a line, and gives what is to be printed for it, if anything is.
-    pub fn read(&mut self, alloc: Global, line: &str) -> Result<Option<String>, AllocError> {
+impl Teller for Table {
+    fn tell(&mut self, alloc: Global, line: &str) -> Result<Option<String>, AllocError> {
         let (word, text) = word_of(line);
         if word == "row" {
             return Ok(Some(self.row(alloc, text)?));
@@ -44,6 +34,17 @@ impl Table {
             return Ok(None);
         }
         Ok(Some(String::from_str(alloc, line)?))
+    }
+}
+
+impl Table {
+    /// No inputs, and no containers.
+    pub fn new(alloc: Global) -> Table {
+        Table {
+            inputs: Vec::new(alloc),
+            containers: Vec::new(alloc),
+            declared: Vec::new(alloc),
+        }
     }
 
     /// What comes of a row, with its text behind it.

@@ -8,16 +8,24 @@
 //! - `row TEXT`: a row. Its answer is printed, and the text behind it.
 //! - Anything else is a heading, which is printed as it is.
 //!
-//! In a text `\n`, `\t`, `\r` and `\s` stand for the ends of lines, the tab and the blank, `\d` for the byte 127, and `\f`
-//! for the byte 255, which is in no text; a part in `\{` and `\}` is repeated; and any other character behind `\` stands for
-//! itself. Answers are printed in the same way.
+//! A program whose lines mean something else says by `Teller` what is to be printed for each.
 //!
-//! - `table`: the lines of a table.
+//! In a text `\n`, `\t`, `\r` and `\s` stand for the ends of lines, the tab and the blank, `\d` for the byte 127, `\f` for
+//! the byte 255, which is in no text, and `\x` with two digits of base 16 for the byte of that number; a part in `\{` and
+//! `\}` is repeated; and any other character behind `\` stands for itself. Answers are printed in the same way.
+//!
+//! - `lines`: the lines that a program of rows reads.
+//! - `table`: the lines of a table of rows.
 //! - `texts`: the texts in them.
+//! - `shown`: how bytes are printed.
 #![tactic(auto)]
 
+mod lines;
+mod shown;
 mod table;
 mod texts;
 
+pub use lines::{Teller, print_told};
+pub use shown::{characters, push_bytes};
 pub use table::{Answers, Row, print_answers};
-pub use texts::characters;
+pub use texts::{bytes_of, word_of};

@@ -1,5 +1,7 @@
-//! Lines of a table.
-use crate::texts::{push_shown, spelt};
+//! Tables of rows, of which something is asked.
+use crate::lines::{Teller, print_told};
+use crate::shown::push_shown;
+use crate::texts::{spelt, word_of};
 use std::alloc::{AllocError, AllocGlobal, Global};
 use std::io;
 
@@ -30,18 +32,29 @@ struct Table {
     wanted: Option<Vec<u8>>,
 }
 
+/// A table, and what answers its rows.
+#[derive(Drop)]
+struct Asked<'a, A> {
+    table: Table,
+    answers: &'a mut A,
+}
+
 /// Reads a table, and prints it with the answers of its rows.
 pub fn print_answers<R: Input + Print + AllocGlobal, A: Answers>(
     rt: &R,
     answers: &mut A,
 ) -> io::Result<()> {
-    let mut table = Table::new(rt.alloc());
-    for line in rt.lines(rt.alloc()) {
-        if let Some(text) = table.read(rt.alloc(), answers, line?.as_str())? {
-            println!(rt; "{text}")?;
-        }
+    let mut asked = Asked {
+        table: Table::new(rt.alloc()),
+        answers,
+    };
+    print_told(rt, &mut asked)
+}
+
+impl<A: Answers> Teller for Asked<'_, A> {
+    fn tell(&mut self, alloc: Global, line: &str) -> Result<Option<String>, AllocError> {
+        self.table.read(alloc, self.answers, line)
     }
-    Ok(())
 }
 
 impl Table {
@@ -65,7 +78,7 @@ impl Table {
         answers: &mut A,
         line: &str,
     ) -> Result<Option<String>, AllocError> {
-        let (word, text) = line.split_once(' ').unwrap_or((line, ""));
+        let (word, text) = word_of(line);
         if word == "row" {
             return Ok(Some(self.row(alloc, answers, text)?));
         }

@@ -1,8 +1,7 @@
 //! Rows of the text of traces that were worked out by hand, as data: the file `stdin` is a table of texts, and the file
 //! `stdout` has what is to be told of each.
 //!
-//! A line of the table is one of these. In a text `\n` stands for a line feed, and `\x` with two digits of base 16 for any
-//! byte.
+//! A line of the table is one of these. How a text is written stands in `sk_tables`.
 //!
 //! - `step LINE`: a line behind the first one. The step that it is the line of is printed, and the line behind it.
 //! - `line LINE`: the same, but it is only told whether it has a reading.
@@ -18,13 +17,10 @@
 mod answers;
 mod table;
 
+use sk_tables::print_told;
 use std::io;
-use table::answer;
+use table::Traces;
 
 fn main(rt: HostRuntime) -> io::Result<()> {
-    for line in rt.lines(rt.alloc()) {
-        let answer = answer(rt.alloc(), line?.as_str())?;
-        println!(rt; "{answer}")?;
-    }
-    Ok(())
+    print_told(&rt, &mut Traces)
 }

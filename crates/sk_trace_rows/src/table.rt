@@ -1,14 +1,24 @@
 //! Lines of the table.
 use crate::answers::{cuts, outcome, step, verdict};
-use sk_row_texts::bytes_of;
+use sk_tables::{Teller, bytes_of, word_of};
 use std::alloc::{AllocError, Global};
 
 /// The first line of a trace.
 const FIRST_LINE: &[u8] = b"skepu-trace 1\n";
 
+/// What tells of a table of texts of traces.
+#[derive(Clone, Copy, Debug)]
+pub struct Traces;
+
+impl Teller for Traces {
+    fn tell(&mut self, alloc: Global, line: &str) -> Result<Option<String>, AllocError> {
+        Ok(Some(answer(alloc, line)?))
+    }
+}
+
 /// What is to be printed for a line of the table.
-pub fn answer(alloc: Global, line: &str) -> Result<String, AllocError> {
-    let (word, text) = line.split_once(' ').unwrap_or((line, ""));
+fn answer(alloc: Global, line: &str) -> Result<String, AllocError> {
+    let (word, text) = word_of(line);
     if word == "step" {
         let told = step(alloc, behind_first(alloc, text)?.as_slice())?;
         return told_of(alloc, text, told.as_str());

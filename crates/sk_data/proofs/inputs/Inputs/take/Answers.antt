@@ -1,5 +1,5 @@
 use Rattle.std.proofs.Common.{◌≡◌, ◌++◌, ◌∷◌, [], Some, get_or, map, set, subst, sym, ap, ◌∙◌}
-use Rattle.csv.specs.Records.{fields_of}
+use Rattle.sk_data.specs.RecordText.{fields_of}
 use Rattle.sk_data.specs.Held.{Held, slot_of}
 use Rattle.sk_tree.specs.declared.declared.Declared.{Declared}
 use Rattle.sk_data.specs.Records.{HaveDistinctNames, form_fault, given_by}

@@ -1,5 +1,5 @@
 -- A recursion on a count of turns, beside a loop that counts up; and one step down.
-use Rattle.std.proofs.Common.{◌≡◌, ℕ, suc, ◌+◌, ◌-◌, ◌<◌, ◌≤◌, List, [], ◌∷◌, ◌++◌, length, Some, None, refl, ap, sym, ◌∙◌, arith}
+use Rattle.std.proofs.Common.{◌≡◌, ℕ, suc, ◌+◌, ◌-◌, ◌<◌, ◌≤◌, List, [], ◌∷◌, ◌++◌, length, refl, ap, sym, ◌∙◌, arith}
 use Rattle.std.specs.Prelude.{reverse}
 use Rattle.std.proofs.lemmas.List.{reverse-append}
 use Rattle.sk_tokens.specs.declared.token.Sign.TheVariants as sign
@@ -7,10 +7,10 @@ use Rattle.sk_tree.specs.declared.tree.Expr.{Expr}
 use Rattle.sk_tree.specs.declared.tree.Expr.TheVariants as tree
 use Rattle.sk_reading.specs.declared.reach.Reach.{Reach}
 use Rattle.sk_reading.specs.declared.reach.Reach.TheVariants.{Whole}
-use Rattle.sk_reading.specs.Reading.{Place, Outcome, Parser, and_then, expect, opened}
+use Rattle.sk_reading.specs.Reading.{Place, Outcome, Read, Refused, Parser, and_then, expect}
 use Rattle.sk_reading.specs.ReadingStatements.{part_below, part_of}
 use Rattle.sk_reading.specs.declared.part.Part.{Part}
-use Rattle.sk_reading.specs.ReadingExpressions.{below, expression, chosen, operators, more}
+use Rattle.sk_reading.specs.ReadingExpressions.{opened_by_expression, below, expression, chosen, operators, more}
 
 pub one_more : {X : Type 0} {x : X} (f : ℕ → X) (n at : ℕ) → at < n → x ≡ f (n - at) → x ≡ f (suc (n - (at + 1)))
 one_more f n at less e = let turn : n - at ≡ suc (n - (at + 1)) = omega arith in e ∙ ap f turn
@@ -28,21 +28,21 @@ below-some left reach p some =
     ap (λ n. below n reach p) e ∙ below-suc (left - 1) reach p
 
 and_then-then : {A B C : Type 0} (o : Outcome A) (f : A → Parser B) (g : B → Parser C) → and_then (and_then o f) g ≡ and_then o (λ a p. and_then (f a p) g)
-and_then-then None f g = refl
-and_then-then (Some x) f g = refl
+and_then-then (Refused refusal left) f g = refl
+and_then-then (Read x) f g = refl
 
 -- the other part is read, and the choice waits behind the tests that are left
 pub chosen_turn : (left : ℕ) (inner : Reach → Parser Expr) (tests : List Expr) (test value : Expr) (p : Place)
     → chosen left inner (test ∷ tests) value p
-    ≡ and_then (and_then (expect sign.Colon p) (λ _ q. and_then (opened left q) (λ _. inner Whole))) (λ other. chosen left inner tests (tree.Choose test value other))
+    ≡ and_then (and_then (expect sign.Colon p) (λ _ q. and_then (opened_by_expression left q) (λ _. inner Whole))) (λ other. chosen left inner tests (tree.Choose test value other))
 unfolding chosen
 chosen_turn left inner tests test value p = go (expect sign.Colon p)
   where
     go : (o : Outcome (Unit {0}))
-        → and_then o (λ _ q. and_then (opened left q) (λ _ r. and_then (inner Whole r) (λ other. chosen left inner tests (tree.Choose test value other))))
-        ≡ and_then (and_then o (λ _ q. and_then (opened left q) (λ _. inner Whole))) (λ other. chosen left inner tests (tree.Choose test value other))
-    go None = refl
-    go (Some x) = sym (and_then-then (opened left x.1) (λ _. inner Whole) (λ other. chosen left inner tests (tree.Choose test value other)))
+        → and_then o (λ _ q. and_then (opened_by_expression left q) (λ _ r. and_then (inner Whole r) (λ other. chosen left inner tests (tree.Choose test value other))))
+        ≡ and_then (and_then o (λ _ q. and_then (opened_by_expression left q) (λ _. inner Whole))) (λ other. chosen left inner tests (tree.Choose test value other))
+    go (Refused refusal left) = refl
+    go (Read x) = sym (and_then-then (opened_by_expression left x.1) (λ _. inner Whole) (λ other. chosen left inner tests (tree.Choose test value other)))
 
 pub chosen_pop : (left : ℕ) (inner : Reach → Parser Expr) (tests rest : List Expr) (test value : Expr) (p : Place) → tests ≡ rest ++ test ∷ []
     → chosen left inner (reverse tests) value p ≡ chosen left inner (test ∷ reverse rest) value p
@@ -61,7 +61,7 @@ operators-some left inner reach p some =
     ap (λ n. operators left inner n p) e ∙ operators-suc left inner (reach - 1) p
 
 pub chosen_none : (left : ℕ) (inner : Reach → Parser Expr) (tests : List Expr) (value : Expr) (p : Place) → length tests ≡ 0
-    → chosen left inner (reverse tests) value p ≡ Some (value, p)
+    → chosen left inner (reverse tests) value p ≡ Read (value, p)
 unfolding chosen
 chosen_none left inner [] value p e = refl
 chosen_none left inner (test ∷ tests) value p e = absurd (omega arith)

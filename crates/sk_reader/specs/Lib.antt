@@ -1,4 +1,5 @@
 pub mod ParsesAs
+pub mod Tells
 pub mod Inner
 pub mod InnerPart
 pub mod Inside

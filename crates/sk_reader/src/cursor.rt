@@ -1,19 +1,19 @@
-ghost use Rattle.std.specs.Prelude.{◌≡◌, ◌≢◌, ◌+◌, ◌≤◌, ◌<◌, ◌^◌, length, drop, map};
+ghost use Rattle.std.specs.Prelude.{◌≡◌, length, map};
 ghost use Rattle.std.specs.Option.{option_copied};
 ghost use Rattle.sk_reading.specs.Reading as spec;
 ghost use Rattle.sk_reading.specs.ReadingExpressions as expressions;
 ghost use Rattle.sk_reading.specs.ReadingForms as forms;
 ghost use Rattle.sk_reading.specs.ReadingPrograms as programs;
 ghost use Rattle.sk_reader.specs.ParsesAs.{ParsesAs};
-ghost use Rattle.sk_reader.specs.declared.fault.ParseFault.TheVariants.{Memory};
 
-use crate::fault::{Limited, ParseFault};
 use crate::keyword::keyword_of;
-use crate::next::{is_keyword, is_sign, is_type, next_of};
+use crate::next::{begins_expression, is_keyword, is_sign, is_type, next_of};
+use crate::stop::Stop;
 use sk_base::{Cell, Ty};
 use sk_grammar::meant;
 use sk_names::{Name, Text};
 use sk_reading::{Keyword, Next};
+use sk_refusals::{Limited, Refusal};
 use sk_tokens::{Sign, Token, TokenKind};
 use std::alloc::Global;
 use std::marker::Model;
@@ -27,9 +27,8 @@ const MOST_INSTANCES: u32 = 1024;
 /// How far a list of tokens is read, and what has been counted.
 #[derive(Drop)]
 pub struct Cursor<'a> {
+    /// The tokens that are left.
     rest: &'a [Token],
-    /// How many tokens are read.
-    at: u32,
     /// The nodes of the expression so far.
     nodes: u32,
     /// The instances so far.
@@ -41,22 +40,18 @@ impl<'a> Model for Cursor<'a> {
 
     ghost Value = { Place };
 
-    ghost use Rattle.sk_reader.specs.Inside.{place_of, IsCounted};
+    ghost use Rattle.sk_reader.specs.Inside.{place_of};
 
     ghost view = { place_of };
-
-    ghost invariant = { IsCounted };
 }
 
 impl<'a> Cursor<'a> {
     /// Before the first of the tokens, with nothing counted.
     pub fn new(tokens: &'a [Token]) -> Cursor<'a>
-        requires { length tokens.now < 2 ^ 31 }
         ensures { result ≡ spec.start_of tokens.now }
     {
         Cursor {
             rest: tokens,
-            at: 0,
             nodes: 0,
             instances: 0,
         }
@@ -79,7 +74,6 @@ impl<'a> Cursor<'a> {
     {
         Cursor {
             rest: self.rest,
-            at: self.at,
             nodes: self.nodes,
             instances: self.instances,
         }
@@ -129,7 +123,6 @@ impl<'a> Cursor<'a> {
     {
         if !self.rest.is_empty() {
             self.rest = &self.rest[1..];
-            self.at += 1;
         }
     }
 
@@ -164,7 +157,7 @@ impl<'a> Cursor<'a> {
 
     /// Takes the sign, which has to come next.
     #[tactic(auto, unfolding(sk_reading::specs::Reading::expect))]
-    pub fn expect(&mut self, sign: Sign) -> Result<(), ParseFault>
+    pub fn expect(&mut self, sign: Sign) -> Result<(), Stop>
         ensures { ParsesAs (spec.expect sign self.old) result self.new }
     {
         if !self.sees(sign) {
@@ -176,7 +169,7 @@ impl<'a> Cursor<'a> {
 
     /// Takes the reserved word, which has to come next.
     #[tactic(auto, unfolding(sk_reading::specs::Reading::expect_keyword))]
-    pub fn expect_keyword(&mut self, keyword: Keyword) -> Result<(), ParseFault>
+    pub fn expect_keyword(&mut self, keyword: Keyword) -> Result<(), Stop>
         ensures { ParsesAs (spec.expect_keyword keyword self.old) result self.new }
     {
         if !self.sees_keyword(keyword) {
@@ -210,7 +203,7 @@ impl<'a> Cursor<'a> {
 
     /// `NAME`: takes a word that is not reserved.
     #[tactic(auto, unfolding(sk_reading::specs::Reading::name, sk_reading::specs::Reading::name_of))]
-    pub fn name(&mut self, alloc: Global) -> Result<Name, ParseFault>
+    pub fn name(&mut self, alloc: Global) -> Result<Name, Stop>
         ensures { ParsesAs (spec.name self.old) result self.new }
     {
         let Some(word) = self.front_word() else {
@@ -226,7 +219,7 @@ impl<'a> Cursor<'a> {
 
     /// Takes a word of the entries, and gives what it stands for.
     #[tactic(auto, unfolding(sk_reading::specs::Reading::word_in))]
-    pub fn word_in<T: Copy>(&mut self, entries: &[(&[u8], T)]) -> Result<T, ParseFault>
+    pub fn word_in<T: Copy>(&mut self, entries: &[(&[u8], T)]) -> Result<T, Stop>
         ensures { ParsesAs (spec.word_in (map (λ entry. (entry.0.now, entry.1)) entries.now) self.old) result self.new }
     {
         let Some(word) = self.front_word() else {
@@ -241,7 +234,7 @@ impl<'a> Cursor<'a> {
 
     /// `NUMBER`: takes a number, and gives its type and value.
     #[tactic(auto, unfolding(sk_reading::specs::Reading::number))]
-    pub fn number(&mut self) -> Result<(Ty, Cell), ParseFault>
+    pub fn number(&mut self) -> Result<(Ty, Cell), Stop>
         ensures { ParsesAs (spec.number self.old) result self.new }
     {
         match self.rest.first() {
@@ -261,7 +254,7 @@ impl<'a> Cursor<'a> {
 
     /// `STRING`: takes a string, and gives the bytes for which it stands.
     #[tactic(auto, unfolding(sk_reading::specs::Reading::text))]
-    pub fn text(&mut self, alloc: Global) -> Result<Text, ParseFault>
+    pub fn text(&mut self, alloc: Global) -> Result<Text, Stop>
         ensures { ParsesAs (spec.text self.old) result self.new }
     {
         match self.rest.first() {
@@ -281,7 +274,7 @@ impl<'a> Cursor<'a> {
 
     /// `type = "int" | "long"`
     #[tactic(auto, unfolding(sk_reading::specs::Reading::ty))]
-    pub fn ty(&mut self) -> Result<Ty, ParseFault>
+    pub fn ty(&mut self) -> Result<Ty, Stop>
         ensures { ParsesAs (spec.ty self.old) result self.new }
     {
         let ty = match self.peek() {
@@ -302,7 +295,7 @@ impl<'a> Cursor<'a> {
 
     /// Counts a node at the next token, which is not taken.
     #[tactic(auto, unfolding(sk_reading::specs::Reading::count_node))]
-    pub fn count_node(&mut self) -> Result<(), ParseFault>
+    pub fn count_node(&mut self) -> Result<(), Stop>
         ensures { ParsesAs (spec.count_node self.old) result self.new }
     {
         if self.nodes >= MOST_NODES {
@@ -314,7 +307,7 @@ impl<'a> Cursor<'a> {
 
     /// Counts an instance at the next token, which is not taken.
     #[tactic(auto, unfolding(sk_reading::specs::Reading::count_instance))]
-    pub fn count_instance(&mut self) -> Result<(), ParseFault>
+    pub fn count_instance(&mut self) -> Result<(), Stop>
         ensures { ParsesAs (spec.count_instance self.old) result self.new }
     {
         if self.instances >= MOST_INSTANCES {
@@ -326,7 +319,7 @@ impl<'a> Cursor<'a> {
 
     /// Opens something at the next token, where `left` more may be opened. Nothing is taken.
     #[tactic(auto, unfolding(sk_reading::specs::Reading::opened))]
-    pub fn open(&self, left: usize) -> Result<(), ParseFault>
+    pub fn open(&self, left: usize) -> Result<(), Stop>
         ensures { ParsesAs (spec.opened left self.now) result self.now }
     {
         if left == 0 {
@@ -335,27 +328,58 @@ impl<'a> Cursor<'a> {
         Ok(())
     }
 
-    /// The fault of one part too many that is open, at the next token.
-    pub fn deep(&self) -> ParseFault
-        ensures { result ≢ Memory }
+    /// Takes the sign, which has to come next and opens something, where `left` more may be opened.
+    #[tactic(auto, unfolding(sk_reading::specs::Reading::opened_by))]
+    pub fn open_by(&mut self, sign: Sign, left: usize) -> Result<(), Stop>
+        ensures { ParsesAs (spec.opened_by sign left self.old) result self.new }
     {
-        ParseFault::Deep { token: self.at }
-    }
-
-    /// The fault of one thing too many of a kind, at the next token.
-    pub fn many(&self, what: Limited) -> ParseFault
-        ensures { result ≢ Memory }
-    {
-        ParseFault::Many {
-            what,
-            token: self.at,
+        if !self.sees(sign) {
+            return Err(self.refuse());
         }
+        self.open(left)?;
+        self.advance();
+        Ok(())
     }
 
-    /// A fault of the grammar at the next token.
-    pub fn refuse(&self) -> ParseFault
-        ensures { result ≢ Memory }
+    /// Opens something at the expression that has to come next, where `left` more may be opened. Nothing is taken.
+    #[tactic(auto, unfolding(sk_reading::specs::ReadingExpressions::opened_by_expression))]
+    pub fn open_by_expression(&self, left: usize) -> Result<(), Stop>
+        ensures { ParsesAs (expressions.opened_by_expression left self.now) result self.now }
     {
-        ParseFault::Syntax { token: self.at }
+        if !begins_expression(self.peek()) {
+            return Err(self.refuse());
+        }
+        self.open(left)
+    }
+
+    /// The stop at the next token, with which no program goes on.
+    pub fn refuse(&self) -> Stop
+        ensures { result ≡ Stop.Refused Refusal.Syntax (length self.now.rest) }
+    {
+        self.stop(Refusal::Syntax)
+    }
+
+    /// The stop at the next token, round which one part too many is open.
+    pub fn deep(&self) -> Stop
+        ensures { result ≡ Stop.Refused Refusal.Deep (length self.now.rest) }
+    {
+        self.stop(Refusal::Deep)
+    }
+
+    /// The stop at the next token, which is one thing too many of a kind.
+    pub fn many(&self, what: Limited) -> Stop
+        ensures { result ≡ Stop.Refused (Refusal.Many what) (length self.now.rest) }
+    {
+        self.stop(Refusal::Many(what))
+    }
+
+    /// The stop at the next token.
+    fn stop(&self, refusal: Refusal) -> Stop
+        ensures { result ≡ Stop.Refused refusal (length self.now.rest) }
+    {
+        Stop::Refused {
+            refusal,
+            left: self.left(),
+        }
     }
 }

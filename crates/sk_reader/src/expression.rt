@@ -5,7 +5,7 @@ ghost use Rattle.sk_reader.specs.ParsesAs.{ParsesAs};
 ghost use Rattle.sk_reading.specs.ReadingExpressions as spec;
 
 use crate::cursor::Cursor;
-use crate::fault::ParseFault;
+use crate::stop::Stop;
 use sk_names::Name;
 use sk_reading::{Next, Reach};
 use sk_tokens::Sign;
@@ -43,10 +43,10 @@ fn element(alloc: Global, name: Name, place: Expr) -> Result<Expr, AllocError>
     Ok(Expr::Apply(name, places))
 }
 
-impl<F: Fn(Global, &mut Cursor<'_>, usize, Reach) -> Result<Expr, ParseFault>> Expressions<F> {
+impl<F: Fn(Global, &mut Cursor<'_>, usize, Reach) -> Result<Expr, Stop>> Expressions<F> {
     /// An expression inside of what is opened here, up to its end; a fault where nothing more may be opened.
     #[tactic(auto, unfolding(sk_reading::specs::ReadingExpressions::below))]
-    pub fn inner(&self, cursor: &mut Cursor<'_>, reach: Reach) -> Result<Expr, ParseFault>
+    pub fn inner(&self, cursor: &mut Cursor<'_>, reach: Reach) -> Result<Expr, Stop>
         requires { ReadsBelow self.now.left (F.pre self.now.inner) (F.post self.now.inner) }
         ensures { ParsesAs (spec.below self.now.left reach cursor.old) result cursor.new }
     {
@@ -58,7 +58,7 @@ impl<F: Fn(Global, &mut Cursor<'_>, usize, Reach) -> Result<Expr, ParseFault>> E
 
     /// `"(" type ")" operand`, a conversion, of which the type is known to stand behind the parenthesis.
     #[tactic(auto, unfolding(sk_reading::specs::ReadingExpressions::conversion))]
-    fn conversion(&self, cursor: &mut Cursor<'_>) -> Result<Expr, ParseFault>
+    fn conversion(&self, cursor: &mut Cursor<'_>) -> Result<Expr, Stop>
         requires { ReadsBelow self.now.left (F.pre self.now.inner) (F.post self.now.inner) }
         ensures { ParsesAs (spec.conversion self.now.left (spec.below self.now.left) cursor.old) result cursor.new }
     {
@@ -73,7 +73,7 @@ impl<F: Fn(Global, &mut Cursor<'_>, usize, Reach) -> Result<Expr, ParseFault>> E
 
     /// `"(" expr ")"`, from the parenthesis on. It leaves no node.
     #[tactic(auto, unfolding(sk_reading::specs::ReadingExpressions::parenthesized))]
-    fn parenthesized(&self, cursor: &mut Cursor<'_>) -> Result<Expr, ParseFault>
+    fn parenthesized(&self, cursor: &mut Cursor<'_>) -> Result<Expr, Stop>
         requires { ReadsBelow self.now.left (F.pre self.now.inner) (F.post self.now.inner) }
         ensures { ParsesAs (spec.parenthesized self.now.left (spec.below self.now.left) cursor.old) result cursor.new }
     {
@@ -86,7 +86,7 @@ impl<F: Fn(Global, &mut Cursor<'_>, usize, Reach) -> Result<Expr, ParseFault>> E
 
     /// `("-"|"~"|"!") operand`, from the sign on, which is known to be a prefix.
     #[tactic(auto, unfolding(sk_reading::specs::ReadingExpressions::prefixed))]
-    fn prefixed(&self, cursor: &mut Cursor<'_>, op: Un) -> Result<Expr, ParseFault>
+    fn prefixed(&self, cursor: &mut Cursor<'_>, op: Un) -> Result<Expr, Stop>
         requires { ReadsBelow self.now.left (F.pre self.now.inner) (F.post self.now.inner) }
         ensures { ParsesAs (spec.prefixed self.now.left (spec.below self.now.left) op cursor.old) result cursor.new }
     {
@@ -98,7 +98,7 @@ impl<F: Fn(Global, &mut Cursor<'_>, usize, Reach) -> Result<Expr, ParseFault>> E
     }
 
     /// `expr`, as an argument; `is_own` where it is part of no other expression.
-    fn argument(&self, cursor: &mut Cursor<'_>, is_own: bool) -> Result<Expr, ParseFault>
+    fn argument(&self, cursor: &mut Cursor<'_>, is_own: bool) -> Result<Expr, Stop>
         requires { ReadsBelow self.now.left (F.pre self.now.inner) (F.post self.now.inner) }
         ensures { ParsesAs (spec.own is_own (spec.below self.now.left Reach.Whole) cursor.old) result cursor.new }
     {
@@ -109,11 +109,7 @@ impl<F: Fn(Global, &mut Cursor<'_>, usize, Reach) -> Result<Expr, ParseFault>> E
     }
 
     /// `args = expr { "," expr }`; `are_own` where each is part of no other expression. Leaves what closes them.
-    pub fn arguments(
-        &self,
-        cursor: &mut Cursor<'_>,
-        are_own: bool,
-    ) -> Result<Items<Expr>, ParseFault>
+    pub fn arguments(&self, cursor: &mut Cursor<'_>, are_own: bool) -> Result<Items<Expr>, Stop>
         requires { ReadsBelow self.now.left (F.pre self.now.inner) (F.post self.now.inner) }
         ensures { ParsesAs (spec.arguments are_own (spec.below self.now.left Reach.Whole) cursor.old) result cursor.new }
     {
@@ -129,7 +125,7 @@ impl<F: Fn(Global, &mut Cursor<'_>, usize, Reach) -> Result<Expr, ParseFault>> E
 
     /// `"(" [ args ] ")"` behind the name of a function or container, from the parenthesis on.
     #[tactic(auto, unfolding(sk_reading::specs::ReadingExpressions::called))]
-    fn called(&self, cursor: &mut Cursor<'_>, function: Name) -> Result<Expr, ParseFault>
+    fn called(&self, cursor: &mut Cursor<'_>, function: Name) -> Result<Expr, Stop>
         requires { ReadsBelow self.now.left (F.pre self.now.inner) (F.post self.now.inner) }
         ensures { ParsesAs (spec.called self.now.left (spec.below self.now.left) function cursor.old) result cursor.new }
     {
@@ -145,7 +141,7 @@ impl<F: Fn(Global, &mut Cursor<'_>, usize, Reach) -> Result<Expr, ParseFault>> E
 
     /// `"[" expr "]"` behind the name of a container, from the bracket on: the tree of one place in parentheses.
     #[tactic(auto, unfolding(sk_reading::specs::ReadingExpressions::indexed))]
-    fn indexed(&self, cursor: &mut Cursor<'_>, container: Name) -> Result<Expr, ParseFault>
+    fn indexed(&self, cursor: &mut Cursor<'_>, container: Name) -> Result<Expr, Stop>
         requires { ReadsBelow self.now.left (F.pre self.now.inner) (F.post self.now.inner) }
         ensures { ParsesAs (spec.indexed self.now.left (spec.below self.now.left) container cursor.old) result cursor.new }
     {
@@ -158,7 +154,7 @@ impl<F: Fn(Global, &mut Cursor<'_>, usize, Reach) -> Result<Expr, ParseFault>> E
 
     /// `"." NAME [ "(" ")" ]` behind a name, from the dot on: a field or a method.
     #[tactic(auto, unfolding(sk_reading::specs::ReadingExpressions::member))]
-    fn member(&self, cursor: &mut Cursor<'_>, whole: Name) -> Result<Expr, ParseFault>
+    fn member(&self, cursor: &mut Cursor<'_>, whole: Name) -> Result<Expr, Stop>
         ensures { ParsesAs (spec.member self.now.left (spec.below self.now.left) whole cursor.old) result cursor.new }
     {
         cursor.advance();
@@ -174,7 +170,7 @@ impl<F: Fn(Global, &mut Cursor<'_>, usize, Reach) -> Result<Expr, ParseFault>> E
 
     /// `NAME | NAME "." NAME [ "(" ")" ] | NAME "(" [ args ] ")" | NAME "[" expr "]"`, a node at the name.
     #[tactic(auto, unfolding(sk_reading::specs::ReadingExpressions::named))]
-    fn named(&self, cursor: &mut Cursor<'_>) -> Result<Expr, ParseFault>
+    fn named(&self, cursor: &mut Cursor<'_>) -> Result<Expr, Stop>
         requires { ReadsBelow self.now.left (F.pre self.now.inner) (F.post self.now.inner) }
         ensures { ParsesAs (spec.named self.now.left (spec.below self.now.left) cursor.old) result cursor.new }
     {
@@ -190,7 +186,7 @@ impl<F: Fn(Global, &mut Cursor<'_>, usize, Reach) -> Result<Expr, ParseFault>> E
 
     /// `NUMBER`, a node.
     #[tactic(auto, unfolding(sk_reading::specs::ReadingExpressions::literal))]
-    fn literal(&self, cursor: &mut Cursor<'_>) -> Result<Expr, ParseFault>
+    fn literal(&self, cursor: &mut Cursor<'_>) -> Result<Expr, Stop>
         ensures { ParsesAs (spec.literal self.now.left (spec.below self.now.left) cursor.old) result cursor.new }
     {
         cursor.count_node()?;
@@ -200,7 +196,7 @@ impl<F: Fn(Global, &mut Cursor<'_>, usize, Reach) -> Result<Expr, ParseFault>> E
 
     /// A conversion or an expression in parentheses, from the parenthesis on.
     #[tactic(auto, unfolding(sk_reading::specs::ReadingExpressions::bracketed))]
-    fn bracketed(&self, cursor: &mut Cursor<'_>) -> Result<Expr, ParseFault>
+    fn bracketed(&self, cursor: &mut Cursor<'_>) -> Result<Expr, Stop>
         requires { ReadsBelow self.now.left (F.pre self.now.inner) (F.post self.now.inner) }
         ensures { ParsesAs (spec.bracketed self.now.left (spec.below self.now.left) cursor.old) result cursor.new }
     {
@@ -215,7 +211,7 @@ impl<F: Fn(Global, &mut Cursor<'_>, usize, Reach) -> Result<Expr, ParseFault>> E
     /// `primary = NUMBER | NAME | NAME "." NAME [ "(" ")" ] | NAME "(" [ args ] ")"
     /// | NAME "[" expr "]" | "(" expr ")"`.
     #[tactic(auto, unfolding(sk_reading::specs::ReadingExpressions::operand))]
-    pub fn operand(&self, cursor: &mut Cursor<'_>) -> Result<Expr, ParseFault>
+    pub fn operand(&self, cursor: &mut Cursor<'_>) -> Result<Expr, Stop>
         requires { ReadsBelow self.now.left (F.pre self.now.inner) (F.post self.now.inner) }
         ensures { ParsesAs (spec.operand self.now.left (spec.below self.now.left) cursor.old) result cursor.new }
     {

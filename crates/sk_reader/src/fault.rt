@@ -1,17 +1,8 @@
 ghost use Rattle.std.specs.Prelude.{◌≡◌};
-ghost use Rattle.sk_reader.specs.declared.fault.ParseFault.TheVariants.{Memory};
+ghost use Rattle.sk_reader.specs.Tells.{fault_of};
 
-use std::alloc::{AllocError, AllocFailed};
+use sk_refusals::{Limited, Refusal};
 use thiserror::Error;
-
-/// What a program has too many of.
-#[derive(Clone, Copy, PartialEq, Eq, Debug)]
-pub enum Limited {
-    Functions,
-    Instances,
-    Parameters,
-    Nodes,
-}
 
 /// Why a list of tokens is not read. Tokens count from 0; the end of the list counts as one more.
 #[derive(Clone, Copy, PartialEq, Eq, Debug, Error)]
@@ -29,18 +20,15 @@ pub enum ParseFault {
     Memory,
 }
 
-impl From<AllocError> for ParseFault {
-    ghost from_gives = { λ _ fault. fault ≡ Memory };
-
-    fn from(_error: AllocError) -> ParseFault {
-        ParseFault::Memory
-    }
-}
-
-impl<T: Drop> From<AllocFailed<T>> for ParseFault {
-    ghost from_gives = { λ _ fault. fault ≡ Memory };
-
-    fn from(_failed: AllocFailed<T>) -> ParseFault {
-        ParseFault::Memory
+impl ParseFault {
+    /// The fault of what is wrong at a token.
+    pub fn new(refusal: Refusal, token: u32) -> ParseFault
+        ensures { result ≡ fault_of refusal token }
+    {
+        match refusal {
+            Refusal::Syntax => ParseFault::Syntax { token },
+            Refusal::Deep => ParseFault::Deep { token },
+            Refusal::Many(what) => ParseFault::Many { what, token },
+        }
     }
 }

@@ -4,9 +4,9 @@ ghost use Rattle.sk_reading.specs.Reading.{and_then, expect, pure};
 ghost use Rattle.sk_reading.specs.ReadingForms as spec;
 
 use crate::cursor::Cursor;
-use crate::fault::ParseFault;
 use crate::operators::{places, value, value_inside};
 use crate::plain::Plain;
+use crate::stop::Stop;
 use crate::words::{
     container, cout, edge_mode, endl, reduce_mode, scan_mode, setting_word, skeleton,
 };
@@ -19,7 +19,7 @@ use sqlite_items::Items;
 use std::alloc::Global;
 
 /// `NUMBER { "," NUMBER }`. Leaves what closes them.
-fn numbers_inside(alloc: Global, cursor: &mut Cursor<'_>) -> Result<Items<Cell>, ParseFault>
+fn numbers_inside(alloc: Global, cursor: &mut Cursor<'_>) -> Result<Items<Cell>, Stop>
     ensures { ParsesAs (spec.numbers_from (length cursor.old.rest) [] cursor.old) result cursor.new }
 {
     let mut found = Items::new(alloc);
@@ -35,7 +35,7 @@ fn numbers_inside(alloc: Global, cursor: &mut Cursor<'_>) -> Result<Items<Cell>,
 
 /// `[ "<" NUMBER { "," NUMBER } ">" ]`
 #[tactic(auto, unfolding(sk_reading::specs::ReadingForms::numbers))]
-fn numbers(alloc: Global, cursor: &mut Cursor<'_>) -> Result<Items<Cell>, ParseFault>
+fn numbers(alloc: Global, cursor: &mut Cursor<'_>) -> Result<Items<Cell>, Stop>
     ensures { ParsesAs (spec.numbers cursor.old) result cursor.new }
 {
     if !cursor.eat(Sign::Lt) {
@@ -47,7 +47,7 @@ fn numbers(alloc: Global, cursor: &mut Cursor<'_>) -> Result<Items<Cell>, ParseF
 }
 
 /// `NAME { "," NAME }`. Leaves what closes them.
-fn names(alloc: Global, cursor: &mut Cursor<'_>) -> Result<Items<Name>, ParseFault>
+fn names(alloc: Global, cursor: &mut Cursor<'_>) -> Result<Items<Name>, Stop>
     ensures { ParsesAs (spec.names cursor.old) result cursor.new }
 {
     let mut found = Items::new(alloc);
@@ -61,7 +61,7 @@ fn names(alloc: Global, cursor: &mut Cursor<'_>) -> Result<Items<Name>, ParseFau
 }
 
 /// What was read, once a sign follows it.
-fn followed<T: Drop>(cursor: &mut Cursor<'_>, sign: Sign, value: T) -> Result<T, ParseFault>
+fn followed<T: Drop>(cursor: &mut Cursor<'_>, sign: Sign, value: T) -> Result<T, Stop>
     ensures { ParsesAs (and_then (expect sign cursor.old) (λ _. pure value)) result cursor.new }
 {
     cursor.expect(sign)?;
@@ -71,13 +71,7 @@ fn followed<T: Drop>(cursor: &mut Cursor<'_>, sign: Sign, value: T) -> Result<T,
 impl Plain {
     /// `"(" args ")"` of a container's declaration, from the parenthesis on: sizes, and a value to fill it with.
     #[tactic(auto, unfolding(sk_reading::specs::ReadingForms::filled))]
-    fn filled(
-        &self,
-        cursor: &mut Cursor<'_>,
-        kind: u8,
-        ty: Ty,
-        name: Name,
-    ) -> Result<What, ParseFault>
+    fn filled(&self, cursor: &mut Cursor<'_>, kind: u8, ty: Ty, name: Name) -> Result<What, Stop>
         ensures { ParsesAs (spec.filled self.now.left kind ty name cursor.old) result cursor.new }
     {
         cursor.open(self.left)?;
@@ -89,19 +83,12 @@ impl Plain {
 
     /// `"=" "skepu_input" "(" STRING ")"` of a container's declaration, from the sign on.
     #[tactic(auto, unfolding(sk_reading::specs::ReadingForms::input))]
-    fn input(
-        &self,
-        cursor: &mut Cursor<'_>,
-        kind: u8,
-        ty: Ty,
-        name: Name,
-    ) -> Result<What, ParseFault>
+    fn input(&self, cursor: &mut Cursor<'_>, kind: u8, ty: Ty, name: Name) -> Result<What, Stop>
         ensures { ParsesAs (spec.input self.now.left kind ty name cursor.old) result cursor.new }
     {
         cursor.advance();
         cursor.expect_keyword(Keyword::SkepuInput)?;
-        cursor.open(self.left)?;
-        cursor.expect(Sign::OpenParen)?;
+        cursor.open_by(Sign::OpenParen, self.left)?;
         let record = cursor.text(self.alloc)?;
         cursor.expect(Sign::CloseParen)?;
         Ok(What::Take(kind, ty, name, record))
@@ -110,7 +97,7 @@ impl Plain {
     /// `make = "skepu" "::" ("Vector"|"Matrix"|"Tensor3"|"Tensor4") "<" type ">" NAME
     /// ( "(" args ")" | "=" "skepu_input" "(" STRING ")" )`
     #[tactic(auto, unfolding(sk_reading::specs::ReadingForms::make))]
-    fn make(&self, cursor: &mut Cursor<'_>) -> Result<What, ParseFault>
+    fn make(&self, cursor: &mut Cursor<'_>) -> Result<What, Stop>
         ensures { ParsesAs (spec.make self.now.left cursor.old) result cursor.new }
     {
         cursor.advance();
@@ -129,7 +116,7 @@ impl Plain {
 
     /// `inst = "auto" NAME "=" "skepu" "::" SKELETON [ "<" NUMBER { "," NUMBER } ">" ] "(" NAME { "," NAME } ")"`
     #[tactic(auto, unfolding(sk_reading::specs::ReadingForms::instance))]
-    fn instance(&self, cursor: &mut Cursor<'_>) -> Result<What, ParseFault>
+    fn instance(&self, cursor: &mut Cursor<'_>) -> Result<What, Stop>
         ensures { ParsesAs (spec.instance self.now.left cursor.old) result cursor.new }
     {
         cursor.count_instance()?;
@@ -140,8 +127,7 @@ impl Plain {
         cursor.expect(Sign::Path)?;
         let skeleton = skeleton(cursor)?;
         let numbers = numbers(self.alloc, cursor)?;
-        cursor.open(self.left)?;
-        cursor.expect(Sign::OpenParen)?;
+        cursor.open_by(Sign::OpenParen, self.left)?;
         let functions = names(self.alloc, cursor)?;
         cursor.expect(Sign::CloseParen)?;
         Ok(What::Instance(Instance {
@@ -153,7 +139,7 @@ impl Plain {
     }
 
     /// What stands in the parentheses of a setting with this word.
-    fn set_to(&self, cursor: &mut Cursor<'_>, word: SettingWord) -> Result<Setting, ParseFault>
+    fn set_to(&self, cursor: &mut Cursor<'_>, word: SettingWord) -> Result<Setting, Stop>
         ensures { ParsesAs (spec.set_by self.now.left word cursor.old) result cursor.new }
     {
         let (alloc, left) = (self.alloc, self.left);
@@ -172,14 +158,13 @@ impl Plain {
     /// | NAME "." "setReduceMode" "(" "skepu" "::" "ReduceMode" "::" LINES ")"
     /// | NAME "." "setEdgeMode" "(" "skepu" "::" "Edge" "::" EDGE ")"`
     #[tactic(auto, unfolding(sk_reading::specs::ReadingForms::set))]
-    pub fn set(&self, cursor: &mut Cursor<'_>) -> Result<What, ParseFault>
+    pub fn set(&self, cursor: &mut Cursor<'_>) -> Result<What, Stop>
         ensures { ParsesAs (spec.set self.now.left cursor.old) result cursor.new }
     {
         let name = cursor.name(self.alloc)?;
         cursor.expect(Sign::Dot)?;
         let word = setting_word(cursor)?;
-        cursor.open(self.left)?;
-        cursor.expect(Sign::OpenParen)?;
+        cursor.open_by(Sign::OpenParen, self.left)?;
         let setting = self.set_to(cursor, word)?;
         cursor.expect(Sign::CloseParen)?;
         Ok(What::Set(name, setting))
@@ -187,7 +172,7 @@ impl Plain {
 
     /// `"std" "::" "endl"`, from `std` on.
     #[tactic(auto, unfolding(sk_reading::specs::ReadingForms::printed_end))]
-    fn printed_end(&self, cursor: &mut Cursor<'_>) -> Result<Item, ParseFault>
+    fn printed_end(&self, cursor: &mut Cursor<'_>) -> Result<Item, Stop>
         ensures { ParsesAs (spec.printed_end self.now.left cursor.old) result cursor.new }
     {
         cursor.advance();
@@ -198,7 +183,7 @@ impl Plain {
 
     /// `"<<" item`, where `item = STRING | "std" "::" "endl" | sum` and a `sum` has `+`, `-` and what binds tighter.
     #[tactic(auto, unfolding(sk_reading::specs::ReadingForms::printed))]
-    fn printed(&self, cursor: &mut Cursor<'_>) -> Result<Item, ParseFault>
+    fn printed(&self, cursor: &mut Cursor<'_>) -> Result<Item, Stop>
         ensures { ParsesAs (spec.printed self.now.left cursor.old) result cursor.new }
     {
         cursor.expect(Sign::Shl)?;
@@ -213,7 +198,7 @@ impl Plain {
     }
 
     /// `"<<" item { "<<" item }`
-    fn items(&self, cursor: &mut Cursor<'_>) -> Result<Items<Item>, ParseFault>
+    fn items(&self, cursor: &mut Cursor<'_>) -> Result<Items<Item>, Stop>
         ensures { ParsesAs (spec.items_from self.now.left (length cursor.old.rest) [] cursor.old) result cursor.new }
     {
         let mut found = Items::new(self.alloc);
@@ -228,7 +213,7 @@ impl Plain {
 
     /// `print = "std" "::" "cout" "<<" item { "<<" item }`
     #[tactic(auto, unfolding(sk_reading::specs::ReadingForms::print))]
-    fn print(&self, cursor: &mut Cursor<'_>) -> Result<What, ParseFault>
+    fn print(&self, cursor: &mut Cursor<'_>) -> Result<What, Stop>
         ensures { ParsesAs (spec.print self.now.left cursor.old) result cursor.new }
     {
         cursor.advance();
@@ -240,7 +225,7 @@ impl Plain {
 
     /// `call | assign`, of which the target comes first, where `call = NAME "(" args ")"`.
     #[tactic(auto, unfolding(sk_reading::specs::ReadingForms::used))]
-    fn used(&self, cursor: &mut Cursor<'_>) -> Result<What, ParseFault>
+    fn used(&self, cursor: &mut Cursor<'_>) -> Result<What, Stop>
         ensures { ParsesAs (spec.used self.now.left cursor.old) result cursor.new }
     {
         let start = cursor.again();
@@ -256,7 +241,7 @@ impl Plain {
 
     /// `set | call | assign`, which begin with a name.
     #[tactic(auto, unfolding(sk_reading::specs::ReadingForms::by_name))]
-    fn by_name(&self, cursor: &mut Cursor<'_>) -> Result<What, ParseFault>
+    fn by_name(&self, cursor: &mut Cursor<'_>) -> Result<What, Stop>
         ensures { ParsesAs (spec.by_name self.now.left cursor.old) result cursor.new }
     {
         if cursor.begins_setting() {
@@ -268,7 +253,7 @@ impl Plain {
 
     /// `"return" expr`
     #[tactic(auto, unfolding(sk_reading::specs::ReadingForms::returned))]
-    fn returned(&self, cursor: &mut Cursor<'_>) -> Result<What, ParseFault>
+    fn returned(&self, cursor: &mut Cursor<'_>) -> Result<What, Stop>
         ensures { ParsesAs (spec.returned self.now.left cursor.old) result cursor.new }
     {
         cursor.advance();
@@ -278,7 +263,7 @@ impl Plain {
 
     /// `decl | assign | make | inst | set | call | print | "return" expr`. Leaves the `;`.
     #[tactic(auto, unfolding(sk_reading::specs::ReadingForms::begun))]
-    fn begun(&self, cursor: &mut Cursor<'_>) -> Result<What, ParseFault>
+    fn begun(&self, cursor: &mut Cursor<'_>) -> Result<What, Stop>
         ensures { ParsesAs (spec.begun self.now.left cursor.old) result cursor.new }
     {
         match cursor.peek() {
@@ -294,7 +279,7 @@ impl Plain {
 
     /// `( decl | assign | make | inst | set | call | print | "return" expr ) ";"`
     #[tactic(auto, unfolding(sk_reading::specs::ReadingForms::short))]
-    pub fn short(&self, cursor: &mut Cursor<'_>) -> Result<What, ParseFault>
+    pub fn short(&self, cursor: &mut Cursor<'_>) -> Result<What, Stop>
         ensures { ParsesAs (spec.short self.now.left cursor.old) result cursor.new }
     {
         let does = self.begun(cursor)?;

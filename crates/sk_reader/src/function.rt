@@ -5,11 +5,12 @@ ghost use Rattle.sk_reading.specs.Reading.{word_in};
 ghost use Rattle.sk_reading.specs.ReadingPrograms as spec;
 
 use crate::cursor::Cursor;
-use crate::fault::{Limited, ParseFault};
 use crate::statement::block;
+use crate::stop::Stop;
 use sk_base::Ty;
 use sk_grammar::meant;
 use sk_reading::{Keyword, Next, View};
+use sk_refusals::Limited;
 use sk_tokens::Sign;
 use sk_tree::{Function, Param, ParamKind};
 use sqlite_items::Items;
@@ -48,14 +49,14 @@ static INDICES: [(&[u8], ParamKind); 4] = [
 ];
 
 /// `"Vec" | "Mat" | "Ten3" | "Ten4" | "Region1D" | "Region2D"`
-fn view_word(cursor: &mut Cursor<'_>) -> Result<View, ParseFault>
+fn view_word(cursor: &mut Cursor<'_>) -> Result<View, Stop>
     ensures { ParsesAs (word_in spec.view_words cursor.old) result cursor.new }
 {
     cursor.word_in(&VIEWS)
 }
 
 /// `"Index1D" | "Index2D" | "Index3D" | "Index4D"`
-fn index_word(cursor: &mut Cursor<'_>) -> Result<ParamKind, ParseFault>
+fn index_word(cursor: &mut Cursor<'_>) -> Result<ParamKind, Stop>
     ensures { ParsesAs (word_in index_words cursor.old) result cursor.new }
 {
     cursor.word_in(&INDICES)
@@ -63,7 +64,7 @@ fn index_word(cursor: &mut Cursor<'_>) -> Result<ParamKind, ParseFault>
 
 /// `type NAME`
 #[tactic(auto, unfolding(sk_reading::specs::ReadingPrograms::scalar))]
-fn scalar(alloc: Global, cursor: &mut Cursor<'_>) -> Result<Param, ParseFault>
+fn scalar(alloc: Global, cursor: &mut Cursor<'_>) -> Result<Param, Stop>
     ensures { ParsesAs (spec.scalar cursor.old) result cursor.new }
 {
     let ty = cursor.ty()?;
@@ -76,7 +77,7 @@ fn scalar(alloc: Global, cursor: &mut Cursor<'_>) -> Result<Param, ParseFault>
 
 /// `("Vec"|"Mat"|"Ten3"|"Ten4"|"Region1D"|"Region2D") "<" type ">" NAME`, from the word on.
 #[tactic(auto, unfolding(sk_reading::specs::ReadingPrograms::viewed))]
-fn viewed(alloc: Global, cursor: &mut Cursor<'_>) -> Result<Param, ParseFault>
+fn viewed(alloc: Global, cursor: &mut Cursor<'_>) -> Result<Param, Stop>
     ensures { ParsesAs (spec.viewed cursor.old) result cursor.new }
 {
     let view = view_word(cursor)?;
@@ -92,7 +93,7 @@ fn viewed(alloc: Global, cursor: &mut Cursor<'_>) -> Result<Param, ParseFault>
 
 /// `("Index1D"|"Index2D"|"Index3D"|"Index4D") NAME`, from the word on.
 #[tactic(auto, unfolding(sk_reading::specs::ReadingPrograms::indexed))]
-fn indexed(alloc: Global, cursor: &mut Cursor<'_>) -> Result<Param, ParseFault>
+fn indexed(alloc: Global, cursor: &mut Cursor<'_>) -> Result<Param, Stop>
     ensures { ParsesAs (spec.indexed cursor.old) result cursor.new }
 {
     let kind = index_word(cursor)?;
@@ -113,7 +114,7 @@ fn begins_index(cursor: &Cursor<'_>) -> bool
 
 /// `"skepu" "::" ..`, a parameter that begins so.
 #[tactic(auto, unfolding(sk_reading::specs::ReadingPrograms::qualified))]
-fn qualified(alloc: Global, cursor: &mut Cursor<'_>) -> Result<Param, ParseFault>
+fn qualified(alloc: Global, cursor: &mut Cursor<'_>) -> Result<Param, Stop>
     ensures { ParsesAs (spec.qualified cursor.old) result cursor.new }
 {
     cursor.advance();
@@ -127,7 +128,7 @@ fn qualified(alloc: Global, cursor: &mut Cursor<'_>) -> Result<Param, ParseFault
 
 /// `"const" "skepu" "::" ..`, a parameter that begins so.
 #[tactic(auto, unfolding(sk_reading::specs::ReadingPrograms::constant))]
-fn constant(alloc: Global, cursor: &mut Cursor<'_>) -> Result<Param, ParseFault>
+fn constant(alloc: Global, cursor: &mut Cursor<'_>) -> Result<Param, Stop>
     ensures { ParsesAs (spec.constant cursor.old) result cursor.new }
 {
     cursor.advance();
@@ -139,7 +140,7 @@ fn constant(alloc: Global, cursor: &mut Cursor<'_>) -> Result<Param, ParseFault>
 /// `param = type NAME | "skepu" "::" ("Index1D"|"Index2D"|"Index3D"|"Index4D") NAME
 /// | ["const"] "skepu" "::" ("Vec"|"Mat"|"Ten3"|"Ten4"|"Region1D"|"Region2D") "<" type ">" NAME`
 #[tactic(auto, unfolding(sk_reading::specs::ReadingPrograms::parameter))]
-fn parameter(alloc: Global, cursor: &mut Cursor<'_>) -> Result<Param, ParseFault>
+fn parameter(alloc: Global, cursor: &mut Cursor<'_>) -> Result<Param, Stop>
     ensures { ParsesAs (spec.parameter cursor.old) result cursor.new }
 {
     match cursor.peek() {
@@ -149,15 +150,37 @@ fn parameter(alloc: Global, cursor: &mut Cursor<'_>) -> Result<Param, ParseFault
     }
 }
 
+/// Whether a parameter may begin with a token.
+fn begins_parameter(next: Next) -> bool
+    ensures { result ≡ spec.begins_parameter next }
+{
+    matches!(
+        next,
+        Next::Keyword(Keyword::Int | Keyword::Long | Keyword::Skepu | Keyword::Const)
+    )
+}
+
+/// Counts a parameter at the next token, which has to be the first of one, behind so many others. Nothing is taken.
+#[tactic(auto, unfolding(sk_reading::specs::ReadingPrograms::count_parameter, sk_reading::specs::ReadingPrograms::one_more))]
+fn count_parameter(cursor: &Cursor<'_>, found: usize) -> Result<(), Stop>
+    ensures { ParsesAs (spec.count_parameter found cursor.now) result cursor.now }
+{
+    if !begins_parameter(cursor.peek()) {
+        return Err(cursor.refuse());
+    }
+    if found >= MOST_PARAMETERS {
+        return Err(cursor.many(Limited::Parameters));
+    }
+    Ok(())
+}
+
 /// `param { "," param }`. Leaves the closing parenthesis.
-fn some_parameters(alloc: Global, cursor: &mut Cursor<'_>) -> Result<Items<Param>, ParseFault>
+fn some_parameters(alloc: Global, cursor: &mut Cursor<'_>) -> Result<Items<Param>, Stop>
     ensures { ParsesAs (spec.parameters_from (length cursor.old.rest) [] cursor.old) result cursor.new }
 {
     let mut found = Items::new(alloc);
     for _turn in 0..cursor.left() {
-        if found.len() >= MOST_PARAMETERS {
-            return Err(cursor.many(Limited::Parameters));
-        }
+        count_parameter(cursor, found.len())?;
         found.push(parameter(alloc, cursor)?)?;
         if !cursor.eat(Sign::Comma) {
             return Ok(found);
@@ -168,7 +191,7 @@ fn some_parameters(alloc: Global, cursor: &mut Cursor<'_>) -> Result<Items<Param
 
 /// `[ param { "," param } ]` up to the closing parenthesis, which it leaves.
 #[tactic(auto, unfolding(sk_reading::specs::ReadingPrograms::parameters))]
-fn parameters(alloc: Global, cursor: &mut Cursor<'_>) -> Result<Items<Param>, ParseFault>
+fn parameters(alloc: Global, cursor: &mut Cursor<'_>) -> Result<Items<Param>, Stop>
     ensures { ParsesAs (spec.parameters cursor.old) result cursor.new }
 {
     if cursor.sees(Sign::CloseParen) {
@@ -179,7 +202,7 @@ fn parameters(alloc: Global, cursor: &mut Cursor<'_>) -> Result<Items<Param>, Pa
 
 /// `function = type NAME "(" [ param { "," param } ] ")" block`
 #[tactic(auto, unfolding(sk_reading::specs::ReadingPrograms::function))]
-pub fn function(alloc: Global, cursor: &mut Cursor<'_>) -> Result<Function, ParseFault>
+pub fn function(alloc: Global, cursor: &mut Cursor<'_>) -> Result<Function, Stop>
     ensures { ParsesAs (spec.function cursor.old) result cursor.new }
 {
     let line = cursor.line();

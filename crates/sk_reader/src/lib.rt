@@ -1,6 +1,7 @@
 //! From tokens to functions: the code, which reads what the definitions of `sk_reading` read.
 //!
-//! - `fault`: why a list of tokens is not read.
+//! - `fault`: why a list of tokens is not read, and of which token that is told.
+//! - `stop`: why reading stops, and how many tokens are left there.
 //! - `keyword`, `same`: reserved words, and equality.
 //! - `next`: what a token is, apart from what it holds.
 //! - `cursor`: how far a list of tokens is read, and what has been counted.
@@ -26,8 +27,10 @@ mod plain;
 mod program;
 mod same;
 mod statement;
+mod stop;
 mod target;
 mod words;
 
-pub use fault::{Limited, ParseFault};
+pub use fault::ParseFault;
 pub use program::functions;
+pub use sk_refusals::Limited;

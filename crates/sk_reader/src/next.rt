@@ -24,6 +24,18 @@ pub fn is_type(next: Next) -> bool
     matches!(next, Next::Keyword(Keyword::Int | Keyword::Long))
 }
 
+/// Whether an expression may begin with a token.
+pub fn begins_expression(next: Next) -> bool
+    ensures { result ≡ expressions.begins_expression next }
+{
+    matches!(
+        next,
+        Next::Number
+            | Next::Name
+            | Next::Sign(Sign::OpenParen | Sign::Minus | Sign::Tilde | Sign::Not)
+    )
+}
+
 /// Whether a token is this reserved word.
 pub fn is_keyword(next: Next, keyword: Keyword) -> bool
     ensures { result ≡ spec.is_keyword keyword next }

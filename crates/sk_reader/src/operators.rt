@@ -2,13 +2,13 @@ ghost use Rattle.std.specs.Prelude.{◌≡◌, ◌≤◌, ◌++◌, [], ◌∷�
 ghost use Rattle.sk_grammar.specs.ExpressionSpelling as spelling;
 ghost use Rattle.sk_reader.specs.Inner.{ReadsBelow};
 ghost use Rattle.sk_reader.specs.ParsesAs.{ParsesAs};
-ghost use Rattle.sk_reading.specs.Reading.{and_then, expect, opened};
+ghost use Rattle.sk_reading.specs.Reading.{and_then, expect};
 ghost use Rattle.sk_reading.specs.ReadingExpressions as spec;
 ghost use Rattle.sk_reading.specs.ReadingAssignments as assignments;
 
 use crate::cursor::Cursor;
 use crate::expression::Expressions;
-use crate::fault::ParseFault;
+use crate::stop::Stop;
 use sk_grammar::Infix;
 use sk_reading::{Next, Reach};
 use sk_tokens::Sign;
@@ -62,10 +62,10 @@ fn choose(alloc: Global, test: Expr, one: Expr, other: Expr) -> Result<Expr, All
     ))
 }
 
-impl<F: Fn(Global, &mut Cursor<'_>, usize, Reach) -> Result<Expr, ParseFault>> Expressions<F> {
+impl<F: Fn(Global, &mut Cursor<'_>, usize, Reach) -> Result<Expr, Stop>> Expressions<F> {
     /// The operators of the first `reach` levels, each of which groups to the left; with no level an operand. From the
     /// tightest on the levels are `* / %`, `+ -`, `<< >>`, `< <= > >=`, `== !=`, `&`, `^`, `|`, `&&`, `||`.
-    fn operators(&self, cursor: &mut Cursor<'_>, reach: u8) -> Result<Expr, ParseFault>
+    fn operators(&self, cursor: &mut Cursor<'_>, reach: u8) -> Result<Expr, Stop>
         requires inner { ReadsBelow self.now.left (F.pre self.now.inner) (F.post self.now.inner) }
         requires reach { reach ≤ 10 }
         ensures { ParsesAs (spec.operators self.now.left (spec.below self.now.left) reach cursor.old) result cursor.new }
@@ -88,22 +88,17 @@ impl<F: Fn(Global, &mut Cursor<'_>, usize, Reach) -> Result<Expr, ParseFault>> E
     }
 
     /// `":" expr` of a `?:`, from the colon on; it counts as opened up to its end.
-    fn other_part(&self, cursor: &mut Cursor<'_>) -> Result<Expr, ParseFault>
+    fn other_part(&self, cursor: &mut Cursor<'_>) -> Result<Expr, Stop>
         requires { ReadsBelow self.now.left (F.pre self.now.inner) (F.post self.now.inner) }
-        ensures { ParsesAs (and_then (expect Sign.Colon cursor.old) (λ _ p. and_then (opened self.now.left p) (λ _. spec.below self.now.left Reach.Whole))) result cursor.new }
+        ensures { ParsesAs (and_then (expect Sign.Colon cursor.old) (λ _ p. and_then (spec.opened_by_expression self.now.left p) (λ _. spec.below self.now.left Reach.Whole))) result cursor.new }
     {
         cursor.expect(Sign::Colon)?;
-        cursor.open(self.left)?;
+        cursor.open_by_expression(self.left)?;
         self.inner(cursor, Reach::Whole)
     }
 
     /// What follows the `:` of the latest test, and so on to the first one; `value` is the middle part of the latest.
-    fn chosen(
-        &self,
-        cursor: &mut Cursor<'_>,
-        tests: Vec<Expr>,
-        value: Expr,
-    ) -> Result<Expr, ParseFault>
+    fn chosen(&self, cursor: &mut Cursor<'_>, tests: Vec<Expr>, value: Expr) -> Result<Expr, Stop>
         requires { ReadsBelow self.now.left (F.pre self.now.inner) (F.post self.now.inner) }
         ensures { ParsesAs (spec.chosen self.now.left (spec.below self.now.left) (reverse tests.items) value cursor.old) result cursor.new }
     {
@@ -118,7 +113,7 @@ impl<F: Fn(Global, &mut Cursor<'_>, usize, Reach) -> Result<Expr, ParseFault>> E
 
     /// `expr = ors [ "?" expr ":" expr ]`, where `ors` is all that binds tighter. Tests whose middle parts are not
     /// ended wait in a list, so that they take no stack.
-    fn choice(&self, cursor: &mut Cursor<'_>) -> Result<Expr, ParseFault>
+    fn choice(&self, cursor: &mut Cursor<'_>) -> Result<Expr, Stop>
         requires { ReadsBelow self.now.left (F.pre self.now.inner) (F.post self.now.inner) }
         ensures { ParsesAs (spec.choice self.now.left (spec.below self.now.left) cursor.old) result cursor.new }
     {
@@ -138,7 +133,7 @@ impl<F: Fn(Global, &mut Cursor<'_>, usize, Reach) -> Result<Expr, ParseFault>> E
     }
 
     /// An expression of that reach, up to its end.
-    fn reading(&self, cursor: &mut Cursor<'_>, reach: Reach) -> Result<Expr, ParseFault>
+    fn reading(&self, cursor: &mut Cursor<'_>, reach: Reach) -> Result<Expr, Stop>
         requires { ReadsBelow self.now.left (F.pre self.now.inner) (F.post self.now.inner) }
         ensures { ParsesAs (spec.reading self.now.left (spec.below self.now.left) reach cursor.old) result cursor.new }
     {
@@ -157,7 +152,7 @@ pub fn expression(
     cursor: &mut Cursor<'_>,
     left: usize,
     reach: Reach,
-) -> Result<Expr, ParseFault>
+) -> Result<Expr, Stop>
     ensures { ParsesAs (spec.expression left reach cursor.old) result cursor.new }
 {
     Expressions {
@@ -175,7 +170,7 @@ pub fn value(
     cursor: &mut Cursor<'_>,
     left: usize,
     reach: Reach,
-) -> Result<Expr, ParseFault>
+) -> Result<Expr, Stop>
     ensures { ParsesAs (assignments.value left reach cursor.old) result cursor.new }
 {
     cursor.fresh();
@@ -184,7 +179,7 @@ pub fn value(
 
 /// An expression that is part of no other, inside of what is opened.
 #[tactic(auto, unfolding(sk_reading::specs::ReadingAssignments::value_inside))]
-pub fn value_inside(alloc: Global, cursor: &mut Cursor<'_>, left: usize) -> Result<Expr, ParseFault>
+pub fn value_inside(alloc: Global, cursor: &mut Cursor<'_>, left: usize) -> Result<Expr, Stop>
     ensures { ParsesAs (assignments.value_inside left cursor.old) result cursor.new }
 {
     cursor.fresh();
@@ -198,11 +193,7 @@ pub fn value_inside(alloc: Global, cursor: &mut Cursor<'_>, left: usize) -> Resu
 
 /// Expressions with commas between, each part of no other, inside of what is opened.
 #[tactic(auto, unfolding(sk_reading::specs::ReadingAssignments::places))]
-pub fn places(
-    alloc: Global,
-    cursor: &mut Cursor<'_>,
-    left: usize,
-) -> Result<Items<Expr>, ParseFault>
+pub fn places(alloc: Global, cursor: &mut Cursor<'_>, left: usize) -> Result<Items<Expr>, Stop>
     ensures { ParsesAs (assignments.places left cursor.old) result cursor.new }
 {
     Expressions {

@@ -1,11 +1,12 @@
-ghost use Rattle.std.specs.Prelude.{◌≡◌, IfOk, IfErr, option_map};
+ghost use Rattle.std.specs.Prelude.{◌≡◌, IfOk, IfErr};
 ghost use Rattle.sk_grammar.specs.Signs.{step_of};
 ghost use Rattle.sk_reader.specs.ParsesAs.{ParsesAs};
+ghost use Rattle.sk_reading.specs.Reading.{value_of};
 ghost use Rattle.sk_reading.specs.ReadingAssignments as spec;
 
 use crate::cursor::Cursor;
-use crate::fault::ParseFault;
 use crate::operators::{places, value, value_inside};
+use crate::stop::Stop;
 use crate::target::{assigned, old_value};
 use sk_base::{Op, Ty};
 use sk_names::Name;
@@ -76,7 +77,7 @@ pub struct Plain {
 impl Plain {
     /// `"(" args ")"` behind the name of a container, from the parenthesis on; each place is an expression of its own.
     #[tactic(auto, unfolding(sk_reading::specs::ReadingAssignments::element))]
-    fn element(&self, cursor: &mut Cursor<'_>, name: Name) -> Result<Target, ParseFault>
+    fn element(&self, cursor: &mut Cursor<'_>, name: Name) -> Result<Target, Stop>
         ensures { ParsesAs (spec.element self.now.left name cursor.old) result cursor.new }
     {
         cursor.open(self.left)?;
@@ -88,7 +89,7 @@ impl Plain {
 
     /// `"[" expr "]"` behind the name of a container, from the bracket on.
     #[tactic(auto, unfolding(sk_reading::specs::ReadingAssignments::bracketed))]
-    fn bracketed(&self, cursor: &mut Cursor<'_>, name: Name) -> Result<Target, ParseFault>
+    fn bracketed(&self, cursor: &mut Cursor<'_>, name: Name) -> Result<Target, Stop>
         ensures { ParsesAs (spec.bracketed self.now.left name cursor.old) result cursor.new }
     {
         cursor.open(self.left)?;
@@ -100,7 +101,7 @@ impl Plain {
 
     /// `target = NAME | NAME "(" args ")" | NAME "[" expr "]"`
     #[tactic(auto, unfolding(sk_reading::specs::ReadingAssignments::target))]
-    pub fn target(&self, cursor: &mut Cursor<'_>) -> Result<Target, ParseFault>
+    pub fn target(&self, cursor: &mut Cursor<'_>) -> Result<Target, Stop>
         ensures { ParsesAs (spec.target self.now.left cursor.old) result cursor.new }
     {
         let name = cursor.name(self.alloc)?;
@@ -112,23 +113,23 @@ impl Plain {
     }
 
     /// The target at a cursor, which has been read already, once more: trees are not copied.
-    fn again(&self, start: &Cursor<'_>, target: &Target) -> Result<Target, ParseFault>
-        requires { option_map (λ read. read.0) (spec.target self.now.left start.now) ≡ Some target.now }
+    fn again(&self, start: &Cursor<'_>, target: &Target) -> Result<Target, Stop>
+        requires { value_of (spec.target self.now.left start.now) ≡ Some target.now }
         ensures same { IfOk result (λ again. again ≡ target.now) }
-        ensures memory { IfErr result (λ fault. fault ≡ ParseFault.Memory) }
+        ensures memory { IfErr result (λ fault. fault ≡ Stop.Memory) }
     {
         let mut start = start.again();
         match self.target(&mut start) {
             Ok(again) => Ok(again),
-            Err(_) => Err(ParseFault::Memory),
+            Err(_) => Err(Stop::Memory),
         }
     }
 
     /// The value of the target, which begins at `start`.
-    fn old_value(&self, start: &Cursor<'_>, target: &Target) -> Result<Expr, ParseFault>
-        requires { option_map (λ read. read.0) (spec.target self.now.left start.now) ≡ Some target.now }
+    fn old_value(&self, start: &Cursor<'_>, target: &Target) -> Result<Expr, Stop>
+        requires { value_of (spec.target self.now.left start.now) ≡ Some target.now }
         ensures old { IfOk result (λ old. old ≡ spec.old_value target.now) }
-        ensures memory { IfErr result (λ fault. fault ≡ ParseFault.Memory) }
+        ensures memory { IfErr result (λ fault. fault ≡ Stop.Memory) }
     {
         let same = self.again(start, target)?;
         Ok(old_value(self.alloc, same)?)
@@ -141,33 +142,27 @@ impl Plain {
         target: &Target,
         op: Op,
         more: Expr,
-    ) -> Result<Expr, ParseFault>
-        requires { option_map (λ read. read.0) (spec.target self.now.left start.now) ≡ Some target.now }
+    ) -> Result<Expr, Stop>
+        requires { value_of (spec.target self.now.left start.now) ≡ Some target.now }
         ensures whole { IfOk result (λ whole. whole ≡ Expr.Binary op (spec.old_value target.now) more) }
-        ensures memory { IfErr result (λ fault. fault ≡ ParseFault.Memory) }
+        ensures memory { IfErr result (λ fault. fault ≡ Stop.Memory) }
     {
         let old = self.old_value(start, target)?;
         Ok(binary(self.alloc, op, old, more)?)
     }
 
     /// The statement that joins a value to that of the target, which begins at `start`.
-    fn joined(
-        &self,
-        start: &Cursor<'_>,
-        target: Target,
-        op: Op,
-        more: Expr,
-    ) -> Result<What, ParseFault>
-        requires { option_map (λ read. read.0) (spec.target self.now.left start.now) ≡ Some target }
+    fn joined(&self, start: &Cursor<'_>, target: Target, op: Op, more: Expr) -> Result<What, Stop>
+        requires { value_of (spec.target self.now.left start.now) ≡ Some target }
         ensures does { IfOk result (λ does. does ≡ spec.assigned target (Expr.Binary op (spec.old_value target) more)) }
-        ensures memory { IfErr result (λ fault. fault ≡ ParseFault.Memory) }
+        ensures memory { IfErr result (λ fault. fault ≡ Stop.Memory) }
     {
         let value = self.joined_value(start, &target, op, more)?;
         Ok(assigned(self.alloc, target, value)?)
     }
 
     /// `"=" expr` behind a target, from the sign on.
-    fn assigns(&self, cursor: &mut Cursor<'_>, target: Target) -> Result<What, ParseFault>
+    fn assigns(&self, cursor: &mut Cursor<'_>, target: Target) -> Result<What, Stop>
         ensures { ParsesAs (spec.update_by self.now.left target (Some Update.Value) cursor.old) result cursor.new }
     {
         cursor.advance();
@@ -184,8 +179,8 @@ impl Plain {
         start: &Cursor<'_>,
         target: Target,
         op: Op,
-    ) -> Result<What, ParseFault>
-        requires { option_map (λ read. read.0) (spec.target self.now.left start.now) ≡ Some target }
+    ) -> Result<What, Stop>
+        requires { value_of (spec.target self.now.left start.now) ≡ Some target }
         ensures { ParsesAs (spec.update_by self.now.left target (Some (Update.Joined op)) cursor.old) result cursor.new }
     {
         cursor.advance();
@@ -200,8 +195,8 @@ impl Plain {
         cursor: &mut Cursor<'_>,
         start: &Cursor<'_>,
         target: Target,
-    ) -> Result<What, ParseFault>
-        requires { option_map (λ read. read.0) (spec.target self.now.left start.now) ≡ Some target }
+    ) -> Result<What, Stop>
+        requires { value_of (spec.target self.now.left start.now) ≡ Some target }
         ensures { ParsesAs (spec.update self.now.left target cursor.old) result cursor.new }
     {
         match update_at(cursor.peek()) {
@@ -216,7 +211,7 @@ impl Plain {
     }
 
     /// `("++"|"--") target`, from the sign on.
-    fn stepped(&self, cursor: &mut Cursor<'_>, sign: Sign) -> Result<What, ParseFault>
+    fn stepped(&self, cursor: &mut Cursor<'_>, sign: Sign) -> Result<What, Stop>
         ensures { ParsesAs (spec.step_by self.now.left (step_of sign) cursor.old) result cursor.new }
     {
         let Some(op) = step(sign) else {
@@ -230,7 +225,7 @@ impl Plain {
 
     /// `assign = target aop expr | target ("++"|"--") | ("++"|"--") target`
     #[tactic(auto, unfolding(sk_reading::specs::ReadingAssignments::assignment))]
-    pub fn assignment(&self, cursor: &mut Cursor<'_>) -> Result<What, ParseFault>
+    pub fn assignment(&self, cursor: &mut Cursor<'_>) -> Result<What, Stop>
         ensures { ParsesAs (spec.assignment self.now.left cursor.old) result cursor.new }
     {
         match cursor.peek() {
@@ -246,7 +241,7 @@ impl Plain {
 
     /// `decl = type NAME "=" expr`
     #[tactic(auto, unfolding(sk_reading::specs::ReadingAssignments::declaration))]
-    pub fn declaration(&self, cursor: &mut Cursor<'_>) -> Result<What, ParseFault>
+    pub fn declaration(&self, cursor: &mut Cursor<'_>) -> Result<What, Stop>
         ensures { ParsesAs (spec.declaration self.now.left cursor.old) result cursor.new }
     {
         let ty = cursor.ty()?;
@@ -258,7 +253,7 @@ impl Plain {
 
     /// `decl | assign`, with which a `for` may begin.
     #[tactic(auto, unfolding(sk_reading::specs::ReadingAssignments::simple))]
-    pub fn simple(&self, cursor: &mut Cursor<'_>) -> Result<What, ParseFault>
+    pub fn simple(&self, cursor: &mut Cursor<'_>) -> Result<What, Stop>
         ensures { ParsesAs (spec.simple self.now.left cursor.old) result cursor.new }
     {
         match cursor.peek() {

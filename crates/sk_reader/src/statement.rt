@@ -7,9 +7,9 @@ ghost use Rattle.sk_reading.specs.ReadingAssignments as assignments;
 ghost use Rattle.sk_reading.specs.ReadingStatements as spec;
 
 use crate::cursor::Cursor;
-use crate::fault::ParseFault;
 use crate::operators::{value, value_inside};
 use crate::plain::Plain;
+use crate::stop::Stop;
 use sk_reading::{Head, Keyword, Next, Part, Reach};
 use sk_tokens::Sign;
 use sk_tree::{Statement, What};
@@ -33,11 +33,7 @@ fn boxed(alloc: Global, line: u32, what: What) -> Result<Boxed<Statement>, Alloc
 }
 
 /// `decl | assign`, the first statement of a `for` on that line.
-fn read_first(
-    plain: Plain,
-    cursor: &mut Cursor<'_>,
-    line: u32,
-) -> Result<Boxed<Statement>, ParseFault>
+fn read_first(plain: Plain, cursor: &mut Cursor<'_>, line: u32) -> Result<Boxed<Statement>, Stop>
     ensures { ParsesAs (and_then (assignments.simple plain.left cursor.old) (λ does. pure (at_line line does))) result cursor.new }
 {
     let does = plain.simple(cursor)?;
@@ -45,11 +41,7 @@ fn read_first(
 }
 
 /// `assign`, the step of a `for` on that line.
-fn read_step(
-    plain: Plain,
-    cursor: &mut Cursor<'_>,
-    line: u32,
-) -> Result<Boxed<Statement>, ParseFault>
+fn read_step(plain: Plain, cursor: &mut Cursor<'_>, line: u32) -> Result<Boxed<Statement>, Stop>
     ensures { ParsesAs (and_then (assignments.assignment plain.left cursor.old) (λ does. pure (at_line line does))) result cursor.new }
 {
     let does = plain.assignment(cursor)?;
@@ -58,7 +50,7 @@ fn read_step(
 
 /// `(decl | assign) ";" expr ";" assign`, the head of a `for` on that line.
 #[tactic(auto, unfolding(sk_reading::specs::ReadingStatements::head))]
-fn read_head(plain: Plain, cursor: &mut Cursor<'_>, line: u32) -> Result<Head, ParseFault>
+fn read_head(plain: Plain, cursor: &mut Cursor<'_>, line: u32) -> Result<Head, Stop>
     ensures { ParsesAs (spec.head plain.left line cursor.old) result cursor.new }
 {
     let first = read_first(plain, cursor, line)?;
@@ -70,12 +62,7 @@ fn read_head(plain: Plain, cursor: &mut Cursor<'_>, line: u32) -> Result<Head, P
 }
 
 /// The head of a `for`, inside of the parentheses that are opened for it.
-fn head_inside(
-    alloc: Global,
-    cursor: &mut Cursor<'_>,
-    left: usize,
-    line: u32,
-) -> Result<Head, ParseFault>
+fn head_inside(alloc: Global, cursor: &mut Cursor<'_>, left: usize, line: u32) -> Result<Head, Stop>
     ensures { ParsesAs (spec.head_inside left line cursor.old) result cursor.new }
 {
     if left == 0 {
@@ -97,12 +84,10 @@ fn alone(alloc: Global, line: u32, what: What) -> Result<Items<Statement>, Alloc
     Ok(all)
 }
 
-impl<
-    F: Fn(Global, &mut Cursor<'_>, usize, Part) -> Result<Items<Statement>, ParseFault>,
-> Statements<F> {
+impl<F: Fn(Global, &mut Cursor<'_>, usize, Part) -> Result<Items<Statement>, Stop>> Statements<F> {
     /// Statements inside of what is opened here; a fault where nothing more may be opened.
     #[tactic(auto, unfolding(sk_reading::specs::ReadingStatements::part_below))]
-    fn inner(&self, cursor: &mut Cursor<'_>, part: Part) -> Result<Items<Statement>, ParseFault>
+    fn inner(&self, cursor: &mut Cursor<'_>, part: Part) -> Result<Items<Statement>, Stop>
         requires { ReadsPartBelow self.now.left (F.pre self.now.inner) (F.post self.now.inner) }
         ensures { ParsesAs (spec.part_below self.now.left part cursor.old) result cursor.new }
     {
@@ -114,12 +99,11 @@ impl<
 
     /// `block = "{" { stmt } "}"`
     #[tactic(auto, unfolding(sk_reading::specs::ReadingStatements::block))]
-    pub fn block(&self, cursor: &mut Cursor<'_>) -> Result<Items<Statement>, ParseFault>
+    pub fn block(&self, cursor: &mut Cursor<'_>) -> Result<Items<Statement>, Stop>
         requires { ReadsPartBelow self.now.left (F.pre self.now.inner) (F.post self.now.inner) }
         ensures { ParsesAs (spec.block self.now.left (spec.part_below self.now.left) cursor.old) result cursor.new }
     {
-        cursor.open(self.left)?;
-        cursor.expect(Sign::OpenBrace)?;
+        cursor.open_by(Sign::OpenBrace, self.left)?;
         let found = self.inner(cursor, Part::Statements)?;
         cursor.expect(Sign::CloseBrace)?;
         Ok(found)
@@ -127,7 +111,7 @@ impl<
 
     /// `"else" ( block | iff )`, from `else` on; an `iff` counts as opened up to its end.
     #[tactic(auto, unfolding(sk_reading::specs::ReadingStatements::other_branch))]
-    fn other_branch(&self, cursor: &mut Cursor<'_>) -> Result<Items<Statement>, ParseFault>
+    fn other_branch(&self, cursor: &mut Cursor<'_>) -> Result<Items<Statement>, Stop>
         requires { ReadsPartBelow self.now.left (F.pre self.now.inner) (F.post self.now.inner) }
         ensures { ParsesAs (spec.other_branch self.now.left (spec.part_below self.now.left) cursor.old) result cursor.new }
     {
@@ -141,7 +125,7 @@ impl<
 
     /// `[ "else" ( block | iff ) ]`
     #[tactic(auto, unfolding(sk_reading::specs::ReadingStatements::otherwise))]
-    fn otherwise(&self, cursor: &mut Cursor<'_>) -> Result<Items<Statement>, ParseFault>
+    fn otherwise(&self, cursor: &mut Cursor<'_>) -> Result<Items<Statement>, Stop>
         requires { ReadsPartBelow self.now.left (F.pre self.now.inner) (F.post self.now.inner) }
         ensures { ParsesAs (spec.otherwise self.now.left (spec.part_below self.now.left) cursor.old) result cursor.new }
     {
@@ -154,13 +138,12 @@ impl<
 
     /// `iff = "if" "(" expr ")" block [ "else" ( block | iff ) ]`, from `if` on.
     #[tactic(auto, unfolding(sk_reading::specs::ReadingStatements::branch))]
-    fn branch(&self, cursor: &mut Cursor<'_>) -> Result<What, ParseFault>
+    fn branch(&self, cursor: &mut Cursor<'_>) -> Result<What, Stop>
         requires { ReadsPartBelow self.now.left (F.pre self.now.inner) (F.post self.now.inner) }
         ensures { ParsesAs (spec.branch self.now.left (spec.part_below self.now.left) cursor.old) result cursor.new }
     {
         cursor.advance();
-        cursor.open(self.left)?;
-        cursor.expect(Sign::OpenParen)?;
+        cursor.open_by(Sign::OpenParen, self.left)?;
         let test = value_inside(self.alloc, cursor, self.left)?;
         cursor.expect(Sign::CloseParen)?;
         let then = self.block(cursor)?;
@@ -170,13 +153,12 @@ impl<
 
     /// `"for" "(" (decl | assign) ";" expr ";" assign ")" block`, from `for` on.
     #[tactic(auto, unfolding(sk_reading::specs::ReadingStatements::turned))]
-    fn turns(&self, cursor: &mut Cursor<'_>, line: u32) -> Result<What, ParseFault>
+    fn turns(&self, cursor: &mut Cursor<'_>, line: u32) -> Result<What, Stop>
         requires { ReadsPartBelow self.now.left (F.pre self.now.inner) (F.post self.now.inner) }
         ensures { ParsesAs (spec.turned self.now.left (spec.part_below self.now.left) line cursor.old) result cursor.new }
     {
         cursor.advance();
-        cursor.open(self.left)?;
-        cursor.expect(Sign::OpenParen)?;
+        cursor.open_by(Sign::OpenParen, self.left)?;
         let head = head_inside(self.alloc, cursor, self.left, line)?;
         cursor.expect(Sign::CloseParen)?;
         let body = self.block(cursor)?;
@@ -185,7 +167,7 @@ impl<
 
     /// `iff | "for" .. | ( decl | assign | .. ) ";"`: what a statement does, which begins on that line.
     #[tactic(auto, unfolding(sk_reading::specs::ReadingStatements::doing))]
-    fn begun(&self, cursor: &mut Cursor<'_>, line: u32) -> Result<What, ParseFault>
+    fn begun(&self, cursor: &mut Cursor<'_>, line: u32) -> Result<What, Stop>
         requires { ReadsPartBelow self.now.left (F.pre self.now.inner) (F.post self.now.inner) }
         ensures { ParsesAs (spec.doing self.now.left (spec.part_below self.now.left) line cursor.old) result cursor.new }
     {
@@ -203,7 +185,7 @@ impl<
     /// `stmt = decl ";" | assign ";" | make ";" | inst ";" | set ";" | call ";" | print ";" | "return" expr ";" | iff
     /// | "for" "(" (decl | assign) ";" expr ";" assign ")" block`
     #[tactic(auto, unfolding(sk_reading::specs::ReadingStatements::statement))]
-    fn statement(&self, cursor: &mut Cursor<'_>) -> Result<Statement, ParseFault>
+    fn statement(&self, cursor: &mut Cursor<'_>) -> Result<Statement, Stop>
         requires { ReadsPartBelow self.now.left (F.pre self.now.inner) (F.post self.now.inner) }
         ensures { ParsesAs (spec.statement self.now.left (spec.part_below self.now.left) cursor.old) result cursor.new }
     {
@@ -213,7 +195,7 @@ impl<
     }
 
     /// `{ stmt }` up to a closing brace, which it leaves.
-    fn statements(&self, cursor: &mut Cursor<'_>) -> Result<Items<Statement>, ParseFault>
+    fn statements(&self, cursor: &mut Cursor<'_>) -> Result<Items<Statement>, Stop>
         requires { ReadsPartBelow self.now.left (F.pre self.now.inner) (F.post self.now.inner) }
         ensures { ParsesAs (spec.statements_from self.now.left (spec.part_below self.now.left) (length cursor.old.rest) [] cursor.old) result cursor.new }
     {
@@ -229,7 +211,7 @@ impl<
 
     /// The `iff` behind an `else`: a list of that statement alone.
     #[tactic(auto, unfolding(sk_reading::specs::ReadingStatements::alone))]
-    fn other_if(&self, cursor: &mut Cursor<'_>) -> Result<Items<Statement>, ParseFault>
+    fn other_if(&self, cursor: &mut Cursor<'_>) -> Result<Items<Statement>, Stop>
         requires { ReadsPartBelow self.now.left (F.pre self.now.inner) (F.post self.now.inner) }
         ensures { ParsesAs (spec.alone self.now.left (spec.part_below self.now.left) cursor.old) result cursor.new }
     {
@@ -239,7 +221,7 @@ impl<
     }
 
     /// The statements of a block, or an `iff` alone.
-    fn of_kind(&self, cursor: &mut Cursor<'_>, part: Part) -> Result<Items<Statement>, ParseFault>
+    fn of_kind(&self, cursor: &mut Cursor<'_>, part: Part) -> Result<Items<Statement>, Stop>
         requires { ReadsPartBelow self.now.left (F.pre self.now.inner) (F.post self.now.inner) }
         ensures { ParsesAs (spec.part self.now.left (spec.part_below self.now.left) part cursor.old) result cursor.new }
     {
@@ -257,7 +239,7 @@ pub fn read_part(
     cursor: &mut Cursor<'_>,
     left: usize,
     kind: Part,
-) -> Result<Items<Statement>, ParseFault>
+) -> Result<Items<Statement>, Stop>
     ensures { ParsesAs (spec.part_of left kind cursor.old) result cursor.new }
 {
     Statements {
@@ -269,11 +251,7 @@ pub fn read_part(
 }
 
 /// A block, where that many more may be opened.
-pub fn block(
-    alloc: Global,
-    cursor: &mut Cursor<'_>,
-    left: usize,
-) -> Result<Items<Statement>, ParseFault>
+pub fn block(alloc: Global, cursor: &mut Cursor<'_>, left: usize) -> Result<Items<Statement>, Stop>
     ensures { ParsesAs (spec.block left (spec.part_below left) cursor.old) result cursor.new }
 {
     Statements {

@@ -5,7 +5,7 @@ ghost use Rattle.sk_reading.specs.Reading.{word_in};
 ghost use Rattle.sk_reading.specs.ReadingForms as spec;
 
 use crate::cursor::Cursor;
-use crate::fault::ParseFault;
+use crate::stop::Stop;
 use sk_base::EdgeMode;
 use sk_reading::{Keyword, SettingWord};
 use sk_tokens::Sign;
@@ -59,21 +59,21 @@ static EDGES: [(&[u8], EdgeMode); 3] = [
 ];
 
 /// `"Vector" | "Matrix" | "Tensor3" | "Tensor4"`: how many sizes it has.
-pub fn container(cursor: &mut Cursor<'_>) -> Result<u8, ParseFault>
+pub fn container(cursor: &mut Cursor<'_>) -> Result<u8, Stop>
     ensures { ParsesAs (word_in container_words cursor.old) result cursor.new }
 {
     cursor.word_in(&CONTAINERS)
 }
 
 /// The name of a skeleton.
-pub fn skeleton(cursor: &mut Cursor<'_>) -> Result<Skeleton, ParseFault>
+pub fn skeleton(cursor: &mut Cursor<'_>) -> Result<Skeleton, Stop>
     ensures { ParsesAs (word_in skeleton_words cursor.old) result cursor.new }
 {
     cursor.word_in(&SKELETONS)
 }
 
 /// `"setStartValue" | "setPad" | "setOverlap" | "setScanMode" | "setReduceMode" | "setEdgeMode"`
-pub fn setting_word(cursor: &mut Cursor<'_>) -> Result<SettingWord, ParseFault>
+pub fn setting_word(cursor: &mut Cursor<'_>) -> Result<SettingWord, Stop>
     ensures { ParsesAs (word_in spec.setting_words cursor.old) result cursor.new }
 {
     cursor.word_in(&SETTINGS)
@@ -85,7 +85,7 @@ fn mode<T: Copy>(
     cursor: &mut Cursor<'_>,
     family: &[(&[u8], ())],
     modes: &[(&[u8], T)],
-) -> Result<T, ParseFault>
+) -> Result<T, Stop>
     ensures { ParsesAs (spec.mode (map (λ entry. (entry.0.now, entry.1)) family.now)
         (map (λ entry. (entry.0.now, entry.1)) modes.now) cursor.old) result cursor.new }
 {
@@ -97,35 +97,35 @@ fn mode<T: Copy>(
 }
 
 /// `"skepu" "::" "ScanMode" "::" ("Inclusive"|"Exclusive")`: whether it is exclusive.
-pub fn scan_mode(cursor: &mut Cursor<'_>) -> Result<bool, ParseFault>
+pub fn scan_mode(cursor: &mut Cursor<'_>) -> Result<bool, Stop>
     ensures { ParsesAs (spec.mode (spec.one_word (codes "ScanMode")) spec.scan_words cursor.old) result cursor.new }
 {
     mode(cursor, &SCAN_FAMILY, &SCANS)
 }
 
 /// `"skepu" "::" "ReduceMode" "::" ("RowWise"|"ColWise")`: whether it goes by columns.
-pub fn reduce_mode(cursor: &mut Cursor<'_>) -> Result<bool, ParseFault>
+pub fn reduce_mode(cursor: &mut Cursor<'_>) -> Result<bool, Stop>
     ensures { ParsesAs (spec.mode (spec.one_word (codes "ReduceMode")) spec.line_words cursor.old) result cursor.new }
 {
     mode(cursor, &REDUCE_FAMILY, &LINES)
 }
 
 /// `"skepu" "::" "Edge" "::" ("Duplicate"|"Cyclic"|"Pad")`
-pub fn edge_mode(cursor: &mut Cursor<'_>) -> Result<EdgeMode, ParseFault>
+pub fn edge_mode(cursor: &mut Cursor<'_>) -> Result<EdgeMode, Stop>
     ensures { ParsesAs (spec.mode (spec.one_word (codes "Edge")) spec.edge_words cursor.old) result cursor.new }
 {
     mode(cursor, &EDGE_FAMILY, &EDGES)
 }
 
 /// The word `cout`.
-pub fn cout(cursor: &mut Cursor<'_>) -> Result<(), ParseFault>
+pub fn cout(cursor: &mut Cursor<'_>) -> Result<(), Stop>
     ensures { ParsesAs (word_in (spec.one_word (codes "cout")) cursor.old) result cursor.new }
 {
     cursor.word_in(&COUT)
 }
 
 /// The word `endl`.
-pub fn endl(cursor: &mut Cursor<'_>) -> Result<(), ParseFault>
+pub fn endl(cursor: &mut Cursor<'_>) -> Result<(), Stop>
     ensures { ParsesAs (word_in (spec.one_word (codes "endl")) cursor.old) result cursor.new }
 {
     cursor.word_in(&ENDL)

@@ -1,6 +1,6 @@
 -- What the parser reads, as functions on lists of tokens. The crates of laws say that these find exactly the spellings of
 -- the grammar that keep the limits; the contracts of the code say that it equals them.
-use Rattle.std.specs.Prelude.{ℕ, zero, suc, ◌+◌, Bool, false, if◌then◌else◌, nat_lt, List, [], ◌∷◌, drop, ℤ, Option, Some, None, codes, option_and_then}
+use Rattle.std.specs.Prelude.{ℕ, zero, suc, ◌+◌, Bool, false, if◌then◌else◌, nat_lt, List, [], ◌∷◌, length, drop, ℤ, Option, Some, None, codes, option_and_then}
 use denote.Enum.Bare.{sameb}
 use Rattle.sk_tokens.specs.contracts.token.Sign as signs
 use Rattle.sk_reading.specs.contracts.keyword.Keyword as keywords
@@ -8,6 +8,9 @@ use Rattle.sk_base.specs.declared.number.Ty.{Ty}
 use Rattle.sk_base.specs.declared.number.Ty.TheVariants.{Int, Long}
 use Rattle.sk_grammar.specs.Limits.{most_nodes, most_instances}
 use Rattle.sk_grammar.specs.Signs.{meant_by}
+use Rattle.sk_refusals.specs.declared.refusal.Limited.TheVariants.{Instances, Nodes}
+use Rattle.sk_refusals.specs.declared.refusal.Refusal.{Refusal}
+use Rattle.sk_refusals.specs.declared.refusal.Refusal.TheVariants.{Syntax, Deep, Many}
 use Rattle.sk_tokens.specs.declared.token.Sign.{Sign}
 use Rattle.sk_tokens.specs.declared.token.Token.{Token}
 use Rattle.sk_tokens.specs.declared.token.TokenKind.{TokenKind}
@@ -70,15 +73,21 @@ advance p = record p { rest = drop 1 p.rest }
 
 -- ---- parsers
 
-abbrev pub Outcome : Type 0 → Type 0
-Outcome A = Option (A × Place)
+-- a value with the place behind it; or what is wrong at the next token, with how many tokens are left there
+pub data Outcome (A : Type 0) : Type 0 where
+  Read : A × Place → Outcome A
+  Refused : Refusal → (left : ℕ) → Outcome A
+
+abbrev pub value_of : {A : Type 0} → Outcome A → Option A
+value_of (Read read) = Some read.0
+value_of (Refused refusal left) = None
 
 abbrev pub Parser : Type 0 → Type 0
 Parser A = Place → Outcome A
 
 abbrev pub and_then : {A B : Type 0} → Outcome A → (A → Parser B) → Outcome B
-and_then (Some read) next = next read.0 read.1
-and_then None next = None
+and_then (Read read) next = next read.0 read.1
+and_then (Refused refusal left) next = Refused refusal left
 
 infixl 10 ◌>>=◌
 abbrev pub ◌>>=◌ : {A B : Type 0} → Parser A → (A → Parser B) → Parser B
@@ -89,19 +98,19 @@ abbrev pub ◌>>◌ : {A B : Type 0} → Parser A → Parser B → Parser B
 p >> q = p >>= (λ _. q)
 
 abbrev pub pure : {A : Type 0} → A → Parser A
-pure a = λ p. Some (a, p)
+pure a = λ p. Read (a, p)
 
-abbrev pub refuse : {A : Type 0} → Parser A
-refuse = λ p. None
+abbrev pub refuse : {A : Type 0} → Refusal → Parser A
+refuse refusal = λ p. Refused refusal (length p.rest)
 
 abbrev pub peek : Parser Next
-peek = λ p. Some (front p, p)
+peek = λ p. Read (front p, p)
 
 abbrev pub take : Parser (Unit {0})
-take = λ p. Some (tt, advance p)
+take = λ p. Read (tt, advance p)
 
 abbrev pub line : Parser ℕ
-line = λ p. Some (front_line p, p)
+line = λ p. Read (front_line p, p)
 
 -- ---- steps
 
@@ -130,13 +139,13 @@ after s p = if sees s p then advance p else p
 
 -- takes the sign, if it comes next
 abbrev pub eat : Sign → Parser Bool
-eat s = λ p. Some (sees s p, after s p)
+eat s = λ p. Read (sees s p, after s p)
 
 unfoldable pub expect : Sign → Parser (Unit {0})
-expect s = λ p. if sees s p then Some (tt, advance p) else None
+expect s = λ p. if sees s p then Read (tt, advance p) else refuse Syntax p
 
 unfoldable pub expect_keyword : Keyword → Parser (Unit {0})
-expect_keyword k = λ p. if sees_keyword k p then Some (tt, advance p) else None
+expect_keyword k = λ p. if sees_keyword k p then Read (tt, advance p) else refuse Syntax p
 
 abbrev pub word_of : List Token → Option (List ℕ)
 word_of [] = None
@@ -146,8 +155,8 @@ unfoldable pub front_word : Place → Option (List ℕ)
 front_word p = word_of p.rest
 
 abbrev pub taken : {A : Type 0} → Place → Option A → Outcome A
-taken p (Some a) = Some (a, advance p)
-taken p None = None
+taken p (Some a) = Read (a, advance p)
+taken p None = refuse Syntax p
 
 abbrev pub if_name : List ℕ → Option Keyword → Option (List ℕ)
 if_name bytes (Some keyword) = None
@@ -189,15 +198,21 @@ ty = λ p. taken p (type_of (front p))
 
 -- an expression begins
 abbrev pub fresh : Parser (Unit {0})
-fresh = λ p. Some (tt, record p { nodes = 0 })
+fresh = λ p. Read (tt, record p { nodes = 0 })
 
 unfoldable pub count_node : Parser (Unit {0})
-count_node = λ p. if nat_lt p.nodes most_nodes then Some (tt, record p { nodes = p.nodes + 1 }) else None
+count_node = λ p. if nat_lt p.nodes most_nodes then Read (tt, record p { nodes = p.nodes + 1 }) else refuse (Many Nodes) p
 
 unfoldable pub count_instance : Parser (Unit {0})
-count_instance = λ p. if nat_lt p.instances most_instances then Some (tt, record p { instances = p.instances + 1 }) else None
+count_instance = λ p. if nat_lt p.instances most_instances then Read (tt, record p { instances = p.instances + 1 }) else refuse (Many Instances) p
+
+-- ---- what is opened
 
 -- one more may be opened
 unfoldable pub opened : ℕ → Parser (Unit {0})
-opened zero = refuse
+opened zero = refuse Deep
 opened (suc left) = pure tt
+
+-- the sign, which has to come next, opens one more
+unfoldable pub opened_by : Sign → ℕ → Parser (Unit {0})
+opened_by s left = λ p. if sees s p then (opened left >> take) p else refuse Syntax p

@@ -4,6 +4,7 @@ use Rattle.sk_base.specs.declared.number.Op.{Op}
 use Rattle.sk_base.specs.declared.number.Op.TheVariants as op
 use Rattle.sk_grammar.specs.Signs.{step_of}
 use Rattle.sk_grammar.specs.StatementSpelling.{one}
+use Rattle.sk_refusals.specs.declared.refusal.Refusal.TheVariants.{Syntax}
 use Rattle.sk_tokens.specs.declared.token.Sign.{Sign}
 use Rattle.sk_tokens.specs.declared.token.Sign.TheVariants as sign
 use Rattle.sk_tree.specs.declared.tree.Expr.{Expr}
@@ -103,7 +104,7 @@ module _ (left : ℕ) where
   update_by to (Some Value) = take >> ((value left Whole) >>= (λ new. pure (assigned to new)))
   update_by to (Some (Joined with_op)) = take >> joined_value to with_op
   update_by to (Some (Step with_op)) = take >> pure (stepped to with_op)
-  update_by to None = refuse
+  update_by to None = refuse Syntax
 
   unfoldable pub update : Target → Parser What
   update to = λ p. update_by to (update_next (front p)) p
@@ -111,12 +112,12 @@ module _ (left : ℕ) where
   -- `++` or `--`, and the target
   abbrev pub step_by : Option Op → Parser What
   step_by (Some with_op) = take >> (target >>= (λ to. pure (stepped to with_op)))
-  step_by None = refuse
+  step_by None = refuse Syntax
 
   abbrev pub assignment_by : Next → Parser What
   assignment_by next.Name = target >>= update
   assignment_by (next.Sign s) = step_by (step_of s)
-  assignment_by other = refuse
+  assignment_by other = refuse Syntax
 
   unfoldable pub assignment : Parser What
   assignment = peek >>= assignment_by

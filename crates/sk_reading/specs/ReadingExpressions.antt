@@ -3,6 +3,7 @@ use Rattle.std.specs.Prelude.{ℕ, zero, suc, ◌+◌, Bool, true, false, if◌t
 use Rattle.sk_grammar.specs.ExpressionSpelling.{joined}
 use Rattle.sk_grammar.specs.declared.infix.Infix.{Infix}
 use Rattle.sk_grammar.specs.Signs.{infix_of, infix_level, prefix_of}
+use Rattle.sk_refusals.specs.declared.refusal.Refusal.TheVariants.{Syntax, Deep}
 use Rattle.sk_tokens.specs.declared.token.Sign.TheVariants as sign
 use Rattle.sk_tree.specs.declared.tree.Expr.{Expr}
 use Rattle.sk_tree.specs.declared.tree.Expr.TheVariants as tree
@@ -12,7 +13,7 @@ use Rattle.sk_reading.specs.declared.next.Next.TheVariants as next
 use Rattle.sk_reading.specs.declared.reach.Reach.{Reach}
 use Rattle.sk_reading.specs.declared.reach.Reach.TheVariants.{Whole, Sum, Operand}
 use Rattle.sk_reading.specs.declared.keyword.Keyword.TheVariants as key
-use Rattle.sk_reading.specs.Reading.{Place, Parser, ◌>>=◌, ◌>>◌, pure, refuse, peek, take, front, advance, sees, eat, expect, name, number, ty, fresh, count_node, opened}
+use Rattle.sk_reading.specs.Reading.{Place, Parser, Read, ◌>>=◌, ◌>>◌, pure, refuse, peek, take, front, advance, sees, eat, expect, name, number, ty, fresh, count_node, opened}
 
 -- the operator that the token is, if it stands that many levels above `* / %`
 abbrev pub at_reach : ℕ → Option Infix → Option Infix
@@ -32,9 +33,24 @@ is_type other = false
 unfoldable pub begins_conversion : Place → Bool
 begins_conversion p = is_type (front (advance p))
 
--- an argument, or more, with commas between; each may be an expression of its own
+-- an expression may begin with it
+abbrev pub begins_expression : Next → Bool
+begins_expression next.Number = true
+begins_expression next.Name = true
+begins_expression (next.Sign sign.OpenParen) = true
+begins_expression (next.Sign sign.Minus) = true
+begins_expression (next.Sign sign.Tilde) = true
+begins_expression (next.Sign sign.Not) = true
+begins_expression other = false
+
+-- an expression, which has to come next, opens one more
+unfoldable pub opened_by_expression : ℕ → Parser (Unit {0})
+opened_by_expression left = λ p. if begins_expression (front p) then opened left p else refuse Syntax p
+
+-- An argument, or more, with commas between; each may be an expression of its own. A turn takes a token at least: so in this
+-- loop and in those like it nothing is left where the turns are out, and what should follow is lacking.
 unfoldable pub arguments_from : Parser Expr → (turns : ℕ) → List Expr → Parser (List Expr)
-arguments_from item zero found = refuse
+arguments_from item zero found = refuse Syntax
 arguments_from item (suc turns) found = do
   argument ← item
   more ← eat sign.Comma
@@ -97,7 +113,7 @@ module _ (left : ℕ) (inner : Reach → Parser Expr) where
   member whole = do
     take
     part ← name
-    is_method ← (λ p. Some (sees sign.OpenParen p, p))
+    is_method ← (λ p. Read (sees sign.OpenParen p, p))
     if is_method then (do
       opened left
       take
@@ -128,14 +144,14 @@ module _ (left : ℕ) (inner : Reach → Parser Expr) where
 
   abbrev pub prefixed_by : Option Un → Parser Expr
   prefixed_by (Some op) = prefixed op
-  prefixed_by None = refuse
+  prefixed_by None = refuse Syntax
 
   abbrev pub operand_by : Next → Parser Expr
   operand_by next.Number = literal
   operand_by next.Name = named
   operand_by (next.Sign sign.OpenParen) = bracketed
   operand_by (next.Sign s) = prefixed_by (prefix_of s)
-  operand_by other = refuse
+  operand_by other = refuse Syntax
 
   unfoldable pub operand : Parser Expr
   operand = peek >>= operand_by
@@ -144,7 +160,7 @@ module _ (left : ℕ) (inner : Reach → Parser Expr) where
   unfoldable pub more : Parser Expr → (reach turns : ℕ) → Expr → Parser Expr
   more part reach zero first = pure first
   more part reach (suc turns) first = λ p. elim (infix_at reach (front p)) [
-    | None ↦ Some (first, p)
+    | None ↦ Read (first, p)
     | Some operator ↦ (do
       count_node
       take
@@ -164,12 +180,12 @@ module _ (left : ℕ) (inner : Reach → Parser Expr) where
   chosen [] value = pure value
   chosen (test ∷ tests) value = do
     expect sign.Colon
-    opened left
+    opened_by_expression left
     other ← inner Whole
     chosen tests (tree.Choose test value other)
 
   unfoldable pub choice_from : (turns : ℕ) → List Expr → Expr → Parser Expr
-  choice_from zero tests value = refuse
+  choice_from zero tests value = refuse Syntax
   choice_from (suc turns) tests value = λ p. if sees sign.Question p then (do
     count_node
     take
@@ -186,7 +202,7 @@ module _ (left : ℕ) (inner : Reach → Parser Expr) where
 
 -- an expression inside what is opened here
 unfoldable pub below : (left : ℕ) → Reach → Parser Expr
-below zero reach = refuse
+below zero reach = refuse Deep
 below (suc left) reach = reading left (below left) reach
 
 -- an expression, where that many more may be opened

@@ -1,9 +1,10 @@
 -- What the parser reads as containers, instances, settings and prints, and as a statement that ends with `;`.
-use Rattle.std.specs.Prelude.{ℕ, zero, suc, Bool, true, false, if◌then◌else◌, List, [], ◌∷◌, ◌++◌, length, ℤ, Some, codes}
+use Rattle.std.specs.Prelude.{ℕ, zero, suc, Bool, true, false, if◌then◌else◌, List, [], ◌∷◌, ◌++◌, length, ℤ, codes}
 use Rattle.sk_base.specs.declared.choice.EdgeMode.{EdgeMode}
 use Rattle.sk_base.specs.declared.choice.EdgeMode.TheVariants.{Duplicate, Cyclic, Pad as PadEdge}
 use Rattle.sk_base.specs.declared.number.Ty.{Ty}
 use Rattle.sk_grammar.specs.Signs.{container_words, skeleton_words}
+use Rattle.sk_refusals.specs.declared.refusal.Refusal.TheVariants.{Syntax}
 use Rattle.sk_tokens.specs.declared.token.Sign.TheVariants as sign
 use Rattle.sk_tree.specs.declared.tree.Item.{Item}
 use Rattle.sk_tree.specs.declared.tree.Item.TheVariants as item
@@ -19,7 +20,7 @@ use Rattle.sk_reading.specs.declared.setting.SettingWord.{SettingWord}
 use Rattle.sk_reading.specs.declared.setting.SettingWord.TheVariants as words
 use Rattle.sk_reading.specs.declared.target.Target.{Target}
 use Rattle.sk_reading.specs.declared.target.Target.TheVariants.{Element}
-use Rattle.sk_reading.specs.Reading.{Place, Parser, ◌>>=◌, ◌>>◌, pure, refuse, peek, take, front, advance, is_sign, sees, eat, expect, expect_keyword, name, word_in, number, text, ty, count_instance, opened}
+use Rattle.sk_reading.specs.Reading.{Place, Parser, Read, ◌>>=◌, ◌>>◌, pure, refuse, peek, take, front, advance, is_sign, sees, eat, expect, expect_keyword, name, word_in, number, text, ty, count_instance, opened, opened_by}
 use Rattle.sk_reading.specs.ReadingAssignments.{value, value_inside, places, target, update, assignment, declaration}
 
 -- ---- containers
@@ -37,8 +38,7 @@ module _ (left : ℕ) where
   input sizes of container = do
     take
     expect_keyword key.SkepuInput
-    opened left
-    expect sign.OpenParen
+    opened_by sign.OpenParen left
     record_name ← text
     expect sign.CloseParen
     pure (what.Take sizes of container record_name)
@@ -46,7 +46,7 @@ module _ (left : ℕ) where
   abbrev pub make_by : ℕ → Ty → List ℕ → Next → Parser What
   make_by sizes of container (next.Sign sign.OpenParen) = filled sizes of container
   make_by sizes of container (next.Sign sign.Eq) = input sizes of container
-  make_by sizes of container other = refuse
+  make_by sizes of container other = refuse Syntax
 
   unfoldable pub make : Parser What
   make = do
@@ -63,7 +63,7 @@ module _ (left : ℕ) where
 -- ---- instances
 
 unfoldable pub numbers_from : (turns : ℕ) → List ℤ → Parser (List ℤ)
-numbers_from zero found = refuse
+numbers_from zero found = refuse Syntax
 numbers_from (suc turns) found = do
   written ← number
   more ← eat sign.Comma
@@ -79,7 +79,7 @@ numbers = do
     pure found) else pure []
 
 unfoldable pub names_from : (turns : ℕ) → List (List ℕ) → Parser (List (List ℕ))
-names_from zero found = refuse
+names_from zero found = refuse Syntax
 names_from (suc turns) found = do
   written ← name
   more ← eat sign.Comma
@@ -98,8 +98,7 @@ instance left = do
   expect sign.Path
   skeleton ← word_in skeleton_words
   counts ← numbers
-  opened left
-  expect sign.OpenParen
+  opened_by sign.OpenParen left
   functions ← names
   expect sign.CloseParen
   pure (what.Instance (record { name = declared; skeleton = skeleton; numbers = counts; functions = functions }))
@@ -153,8 +152,7 @@ module _ (left : ℕ) where
     of ← name
     expect sign.Dot
     kind ← word_in setting_words
-    opened left
-    expect sign.OpenParen
+    opened_by sign.OpenParen left
     made ← set_by kind
     expect sign.CloseParen
     pure (what.Set of made)
@@ -180,10 +178,10 @@ module _ (left : ℕ) where
     printed_by kind
 
   unfoldable pub items_from : (turns : ℕ) → List Item → Parser (List Item)
-  items_from zero found = refuse
+  items_from zero found = refuse Syntax
   items_from (suc turns) found = do
     shown ← printed
-    (λ p. if sees sign.Shl p then items_from turns (found ++ shown ∷ []) p else Some (found ++ shown ∷ [], p))
+    (λ p. if sees sign.Shl p then items_from turns (found ++ shown ∷ []) p else Read (found ++ shown ∷ [], p))
 
   unfoldable pub print : Parser What
   print = do
@@ -197,7 +195,7 @@ module _ (left : ℕ) where
 
   abbrev pub call_of : Target → Parser What
   call_of (Element function found) = pure (what.Call function found)
-  call_of other = refuse
+  call_of other = refuse Syntax
 
   -- a call, or an assignment that begins with its target
   unfoldable pub used : Parser What

@@ -1,6 +1,7 @@
 -- What the parser reads as statements: blocks, branches and loops.
-use Rattle.std.specs.Prelude.{ℕ, zero, suc, if◌then◌else◌, List, [], ◌∷◌, ◌++◌, length, Some}
+use Rattle.std.specs.Prelude.{ℕ, zero, suc, if◌then◌else◌, List, [], ◌∷◌, ◌++◌, length}
 use Rattle.sk_grammar.specs.StatementSpelling.{at_line}
+use Rattle.sk_refusals.specs.declared.refusal.Refusal.TheVariants.{Syntax, Deep}
 use Rattle.sk_tokens.specs.declared.token.Sign.TheVariants as sign
 use Rattle.sk_tree.specs.declared.tree.Statement.{Statement}
 use Rattle.sk_tree.specs.declared.tree.What.{What}
@@ -12,7 +13,7 @@ use Rattle.sk_reading.specs.declared.keyword.Keyword.TheVariants as key
 use Rattle.sk_reading.specs.declared.head.Head.{Head}
 use Rattle.sk_reading.specs.declared.part.Part.{Part}
 use Rattle.sk_reading.specs.declared.part.Part.TheVariants.{Statements, Branch}
-use Rattle.sk_reading.specs.Reading.{Parser, ◌>>=◌, ◌>>◌, pure, refuse, peek, take, sees, sees_keyword, expect, opened, line}
+use Rattle.sk_reading.specs.Reading.{Parser, Read, ◌>>=◌, ◌>>◌, pure, refuse, peek, take, sees, sees_keyword, expect, opened, opened_by, line}
 use Rattle.sk_reading.specs.ReadingAssignments.{value, value_inside, assignment, simple}
 use Rattle.sk_reading.specs.ReadingForms.{short}
 
@@ -27,15 +28,14 @@ head left of = do
   pure (record { first = at_line of first; test = test; step = at_line of step })
 
 abbrev pub head_inside : (left of : ℕ) → Parser Head
-head_inside zero of = refuse
+head_inside zero of = refuse Deep
 head_inside (suc left) of = head left of
 
 -- What stands inside of what is opened is read by `inner`.
 module _ (left : ℕ) (inner : Part → Parser (List Statement)) where
   unfoldable pub block : Parser (List Statement)
   block = do
-    opened left
-    expect sign.OpenBrace
+    opened_by sign.OpenBrace left
     found ← inner Statements
     expect sign.CloseBrace
     pure found
@@ -46,14 +46,13 @@ module _ (left : ℕ) (inner : Part → Parser (List Statement)) where
     (λ p. if sees_keyword key.If p then ((opened left) >> inner Branch) p else block p)
 
   unfoldable pub otherwise : Parser (List Statement)
-  otherwise = λ p. if sees_keyword key.Else p then other_branch p else Some ([], p)
+  otherwise = λ p. if sees_keyword key.Else p then other_branch p else Read ([], p)
 
   -- from `if` on
   unfoldable pub branch : Parser What
   branch = do
     take
-    opened left
-    expect sign.OpenParen
+    opened_by sign.OpenParen left
     test ← value_inside left
     expect sign.CloseParen
     then_block ← block
@@ -64,8 +63,7 @@ module _ (left : ℕ) (inner : Part → Parser (List Statement)) where
   unfoldable pub turned : ℕ → Parser What
   turned of = do
     take
-    opened left
-    expect sign.OpenParen
+    opened_by sign.OpenParen left
     found ← head_inside left of
     expect sign.CloseParen
     body ← block
@@ -86,8 +84,8 @@ module _ (left : ℕ) (inner : Part → Parser (List Statement)) where
     pure (at_line of does)
 
   unfoldable pub statements_from : (turns : ℕ) → List Statement → Parser (List Statement)
-  statements_from zero found = refuse
-  statements_from (suc turns) found = λ p. if sees sign.CloseBrace p then Some (found, p)
+  statements_from zero found = refuse Syntax
+  statements_from (suc turns) found = λ p. if sees sign.CloseBrace p then Read (found, p)
       else (statement >>= (λ next. statements_from turns (found ++ next ∷ []))) p
 
   -- the statement that an `else if` stands for
@@ -103,7 +101,7 @@ module _ (left : ℕ) (inner : Part → Parser (List Statement)) where
 
 -- the statements inside what is opened here
 unfoldable pub part_below : (left : ℕ) → Part → Parser (List Statement)
-part_below zero kind = refuse
+part_below zero kind = refuse Deep
 part_below (suc left) kind = part left (part_below left) kind
 
 -- statements, where that many more may be opened

@@ -11,12 +11,12 @@ use Rattle.sk_grammar.specs.Signs.{meant_by}
 use Rattle.sk_names.specs.Words.{is_name, reserved_words}
 use Rattle.sk_tokens.specs.declared.token.Sign.TheVariants as sign
 use Rattle.sk_tokens.specs.declared.token.Token.{Token}
-use Rattle.sk_reading.specs.Reading.{Place, keyword_words, keyword_of, front, advance, front_word, name_of, name, number, ty, count_node}
+use Rattle.sk_reading.specs.Reading.{Place, Read, keyword_words, keyword_of, front, advance, front_word, name_of, name, number, ty, count_node}
 
 abbrev pub at : List Token → (nodes instances : ℕ) → Place
 at tokens nodes instances = record { rest = tokens; nodes = nodes; instances = instances }
 
-pub count-ok : (r : List Token) (n i : ℕ) → n < 1024 → count_node (at r n i) ≡ Some (tt, at r (n + 1) i)
+pub count-ok : (r : List Token) (n i : ℕ) → n < 1024 → count_node (at r n i) ≡ Read (tt, at r (n + 1) i)
 unfolding count_node
 count-ok r n i below = let yes : nat_lt n 1024 ≡ true = search rules in rw yes refl
 
@@ -31,15 +31,15 @@ pub keyword-none : (w : List ℕ) → IsTrue (is_name w) → keyword_of w ≡ No
 unfolding keyword_of is_name
 keyword-none w h = meant-none keyword_words w (not-true (list_any (λ reserved. same_bytes reserved w) reserved_words) h)
 
-pub name-ok : (w : List ℕ) (line : ℕ) (r : List Token) (n i : ℕ) → IsTrue (is_name w) → name (at (spelling.word w line ∷ r) n i) ≡ Some (w, at r n i)
+pub name-ok : (w : List ℕ) (line : ℕ) (r : List Token) (n i : ℕ) → IsTrue (is_name w) → name (at (spelling.word w line ∷ r) n i) ≡ Read (w, at r n i)
 unfolding name name_of front_word advance
 name-ok w line r n i h = rw (keyword-none w h) refl
 
-pub number-ok : (t : Ty) (v : ℤ) (line : ℕ) (r : List Token) (n i : ℕ) → number (at (spelling.number t v line ∷ r) n i) ≡ Some ((t, v), at r n i)
+pub number-ok : (t : Ty) (v : ℤ) (line : ℕ) (r : List Token) (n i : ℕ) → number (at (spelling.number t v line ∷ r) n i) ≡ Read ((t, v), at r n i)
 unfolding number advance
 number-ok t v line r n i = refl
 
-pub ty-ok : (t : Ty) (line : ℕ) (r : List Token) (n i : ℕ) → ty (at (spelling.typed t line ∷ r) n i) ≡ Some (t, at r n i)
+pub ty-ok : (t : Ty) (line : ℕ) (r : List Token) (n i : ℕ) → ty (at (spelling.typed t line ∷ r) n i) ≡ Read (t, at r n i)
 unfolding ty advance front keyword_of
 ty-ok Int line r n i = refl
 ty-ok Long line r n i = refl

@@ -7,6 +7,8 @@ use Rattle.sk_grammar.specs.ExpressionSpelling as spelling
 use Rattle.sk_names.specs.Bytes.{same_bytes}
 use Rattle.sk_grammar.specs.Signs.{meant_by, type_word}
 use Rattle.sk_names.specs.Words.{is_name}
+use Rattle.sk_refusals.specs.declared.refusal.Refusal.TheVariants.{Syntax, Many}
+use Rattle.sk_refusals.specs.declared.refusal.Limited.TheVariants.{Nodes}
 use Rattle.sk_tokens.specs.contracts.token.Sign as signs
 use Rattle.sk_tokens.specs.declared.token.Sign.{Sign}
 use Rattle.sk_tokens.specs.declared.token.Sign.TheVariants as sign
@@ -18,14 +20,14 @@ use Rattle.sk_reading.specs.declared.next.Next.{Next}
 use Rattle.sk_reading.specs.declared.next.Next.TheVariants as next
 use Rattle.sk_reading.specs.declared.keyword.Keyword.{Keyword}
 use Rattle.sk_reading.specs.declared.keyword.Keyword.TheVariants as key
-use Rattle.sk_reading.specs.Reading.{Place, Outcome, Parser, and_then, keyword_words, keyword_of, word_next, kind_next, front_of, front, advance, same_sign, same_keyword, is_sign, is_keyword, sees, sees_keyword, expect, expect_keyword, front_word, word_of, if_name, taken, name_of, name, word_in, number, number_of, text, text_of, ty, type_of, count_node, opened}
+use Rattle.sk_reading.specs.Reading.{Place, Outcome, Read, Refused, Parser, and_then, refuse, keyword_words, keyword_of, word_next, kind_next, front_of, front, advance, same_sign, same_keyword, is_sign, is_keyword, sees, sees_keyword, expect, expect_keyword, front_word, word_of, if_name, taken, name_of, name, word_in, number, number_of, text, text_of, ty, type_of, count_node, opened, opened_by}
 use Rattle.sk_reading.proofs.Entries.{word-of}
 
 -- ---- outcomes
 
-pub bound : {A B : Type 0} (o : Outcome A) (f : A → Parser B) (y : B × Place) → and_then o f ≡ Some y → (x : A × Place) × (o ≡ Some x) × (f x.0 x.1 ≡ Some y)
-bound None f y h = absurd (cc)
-bound (Some x) f y h = (x, refl, h)
+pub bound : {A B : Type 0} (o : Outcome A) (f : A → Parser B) (y : B × Place) → and_then o f ≡ Read y → (x : A × Place) × (o ≡ Read x) × (f x.0 x.1 ≡ Read y)
+bound (Refused refusal left) f y h = absurd (cc)
+bound (Read x) f y h = (x, refl, h)
 
 abbrev or_else : {A : Type 0} → A → Option A → A
 or_else a None = a
@@ -34,9 +36,16 @@ or_else a (Some b) = b
 pub some-is : {A : Type 0} {x y : A} → Some x ≡ Some y → x ≡ y
 some-is {A} {x} h = ap (or_else x) h
 
+abbrev read_or : {A : Type 0} → A × Place → Outcome A → A × Place
+read_or x (Read y) = y
+read_or x (Refused refusal left) = x
+
+pub read-is : {A : Type 0} {x y : A × Place} → Read x ≡ Read y → x ≡ y
+read-is {A} {x} h = ap (read_or x) h
+
 -- what holds of one outcome holds of the same by another name
-pub along : {A : Type 0} {x y : A × Place} (P : A → Place → Type 0) → Some x ≡ Some y → P x.0 x.1 → P y.0 y.1
-along {A} P h s = subst (λ (z : A × Place). P z.0 z.1) (some-is h) s
+pub along : {A : Type 0} {x y : A × Place} (P : A → Place → Type 0) → Read x ≡ Read y → P x.0 x.1 → P y.0 y.1
+along {A} P h s = subst (λ (z : A × Place). P z.0 z.1) (read-is h) s
 
 -- ---- tokens
 
@@ -97,11 +106,11 @@ sees-sign p s h = go (front p) h
     go next.Text h = absurd (cc)
     go next.End h = absurd (cc)
 
-pub expect-takes : (p : Place) (s : Sign) (x : Unit {0} × Place) → expect s p ≡ Some x → (line : ℕ) × Takes (spelling.sign_at s line) p x.1
+pub expect-takes : (p : Place) (s : Sign) (x : Unit {0} × Place) → expect s p ≡ Read x → (line : ℕ) × Takes (spelling.sign_at s line) p x.1
 unfolding expect
 expect-takes p s x h = go (sees s p) refl h
   where
-    go : (b : Bool) → sees s p ≡ b → cond b (Some (tt, advance p)) None ≡ Some x → (line : ℕ) × Takes (spelling.sign_at s line) p x.1
+    go : (b : Bool) → sees s p ≡ b → cond b (Read (tt, advance p)) (refuse Syntax p) ≡ Read x → (line : ℕ) × Takes (spelling.sign_at s line) p x.1
     go true is h = let (line, takes) = sign-takes p s (sees-sign p s is) in (line, along (λ _. Takes (spelling.sign_at s line) p) h takes)
     go false is h = absurd (cc)
 
@@ -124,9 +133,9 @@ free-name : (w : List ℕ) → keyword_of w ≡ None → IsTrue (is_name w)
 unfolding keyword_of is_name
 free-name w h = ap not (none-meant keyword_words w h)
 
-pub taken-is : {A : Type 0} (p : Place) (o : Option A) (x : A × Place) → taken p o ≡ Some x → (o ≡ Some x.0) × (x.1 ≡ advance p)
+pub taken-is : {A : Type 0} (p : Place) (o : Option A) (x : A × Place) → taken p o ≡ Read x → (o ≡ Some x.0) × (x.1 ≡ advance p)
 taken-is p None x h = absurd (cc)
-taken-is p (Some a) x h = (ap Some (ap (λ y. y.0) (some-is h)), sym (ap (λ y. y.1) (some-is h)))
+taken-is p (Some a) x h = (ap Some (ap (λ y. y.0) (read-is h)), sym (ap (λ y. y.1) (read-is h)))
 
 word-front : (tokens : List Token) (w : List ℕ) → word_of tokens ≡ Some w → (line : ℕ) × (rest : List Token) × (tokens ≡ spelling.word w line ∷ rest)
 word-front [] w h = absurd (cc)
@@ -146,7 +155,7 @@ and-then-some : {A B : Type 0} (f : A → Option B) (o : Option A) (y : B) → o
 and-then-some f None y h = absurd (cc)
 and-then-some f (Some x) y h = (x, refl, h)
 
-pub name-takes : (p : Place) (x : List ℕ × Place) → name p ≡ Some x → (line : ℕ) × IsTrue (is_name x.0) × Takes (spelling.word x.0 line) p x.1
+pub name-takes : (p : Place) (x : List ℕ × Place) → name p ≡ Read x → (line : ℕ) × IsTrue (is_name x.0) × Takes (spelling.word x.0 line) p x.1
 unfolding name name_of
 name-takes p x h =
     let (is, at) = taken-is p (option_and_then name_of (front_word p)) x h in
@@ -161,7 +170,7 @@ name-takes p x h =
         let same = some-is h in
         (line, subst (λ v. IsTrue (is_name v)) same (free-name w free), subst (λ v. Takes (spelling.word v line) p x.1) same (subst (Takes (spelling.word w line) p) (sym at) takes))
 
-pub word_in-takes : {A : Type 0} (entries : List (List ℕ × A)) (p : Place) (x : A × Place) → word_in entries p ≡ Some x
+pub word_in-takes : {A : Type 0} (entries : List (List ℕ × A)) (p : Place) (x : A × Place) → word_in entries p ≡ Read x
     → (line : ℕ) × (w : List ℕ) × (meant_by entries w ≡ Some x.0) × Takes (spelling.word w line) p x.1
 unfolding word_in
 word_in-takes entries p x h =
@@ -180,7 +189,7 @@ number-front (token ∷ rest) n h = (token.line, rest, ap (λ t. t ∷ rest) (to
     go (kind.Text v) h = absurd (cc)
     go (kind.Sign s) h = absurd (cc)
 
-pub number-takes : (p : Place) (x : (Ty × ℤ) × Place) → number p ≡ Some x → (line : ℕ) × Takes (spelling.number x.0.0 x.0.1 line) p x.1
+pub number-takes : (p : Place) (x : (Ty × ℤ) × Place) → number p ≡ Read x → (line : ℕ) × Takes (spelling.number x.0.0 x.0.1 line) p x.1
 unfolding number
 number-takes p x h =
     let (is, at) = taken-is p (number_of p.rest) x h in
@@ -197,7 +206,7 @@ text-front (token ∷ rest) w h = (token.line, rest, ap (λ t. t ∷ rest) (toke
     go (kind.Word v) h = absurd (cc)
     go (kind.Sign s) h = absurd (cc)
 
-pub text-takes : (p : Place) (x : List ℕ × Place) → text p ≡ Some x → (line : ℕ) × Takes (spelling.string x.0 line) p x.1
+pub text-takes : (p : Place) (x : List ℕ × Place) → text p ≡ Read x → (line : ℕ) × Takes (spelling.string x.0 line) p x.1
 unfolding text
 text-takes p x h =
     let (is, at) = taken-is p (text_of p.rest) x h in
@@ -257,11 +266,11 @@ sees-keyword p k h = go (front p) h
     go next.Text h = absurd (cc)
     go next.End h = absurd (cc)
 
-pub expect_keyword-takes : (p : Place) (k : Keyword) (x : Unit {0} × Place) → expect_keyword k p ≡ Some x → (line : ℕ) × Takes (spelling.word (key_word k) line) p x.1
+pub expect_keyword-takes : (p : Place) (k : Keyword) (x : Unit {0} × Place) → expect_keyword k p ≡ Read x → (line : ℕ) × Takes (spelling.word (key_word k) line) p x.1
 unfolding expect_keyword
 expect_keyword-takes p k x h = go (sees_keyword k p) refl h
   where
-    go : (b : Bool) → sees_keyword k p ≡ b → cond b (Some (tt, advance p)) None ≡ Some x → (line : ℕ) × Takes (spelling.word (key_word k) line) p x.1
+    go : (b : Bool) → sees_keyword k p ≡ b → cond b (Read (tt, advance p)) (refuse Syntax p) ≡ Read x → (line : ℕ) × Takes (spelling.word (key_word k) line) p x.1
     go true is h = let (line, takes) = keyword-takes p k (sees-keyword p k is) in (line, along (λ _. Takes (spelling.word (key_word k) line) p) h takes)
     go false is h = absurd (cc)
 
@@ -275,7 +284,7 @@ type-front next.Number t h = absurd (cc)
 type-front next.Text t h = absurd (cc)
 type-front next.End t h = absurd (cc)
 
-pub ty-takes : (p : Place) (x : Ty × Place) → ty p ≡ Some x → (line : ℕ) × Takes (spelling.typed x.0 line) p x.1
+pub ty-takes : (p : Place) (x : Ty × Place) → ty p ≡ Read x → (line : ℕ) × Takes (spelling.typed x.0 line) p x.1
 unfolding ty
 ty-takes p x h =
     let (is, at) = taken-is p (type_of (front p)) x h in
@@ -291,20 +300,32 @@ pub record Counts (p q : Place) : Type 0 where
   pub few : q.nodes ≤ 1024
   pub instances : q.instances ≡ p.instances
 
-pub count-counts : (p : Place) (x : Unit {0} × Place) → count_node p ≡ Some x → Counts p x.1
+pub count-counts : (p : Place) (x : Unit {0} × Place) → count_node p ≡ Read x → Counts p x.1
 unfolding count_node
 count-counts p x h = go (nat_lt p.nodes 1024) refl h
   where
-    go : (b : Bool) → nat_lt p.nodes 1024 ≡ b → cond b (Some (tt, record p { nodes = p.nodes + 1 })) None ≡ Some x → Counts p x.1
+    go : (b : Bool) → nat_lt p.nodes 1024 ≡ b → cond b (Read (tt, record p { nodes = p.nodes + 1 })) (refuse (Many Nodes) p) ≡ Read x → Counts p x.1
     go true is h =
         let below : p.nodes < 1024 = search (rules, is) in
         along (λ _. Counts p) h (record { rest = refl; nodes = refl; few = omega arith; instances = refl })
     go false is h = absurd (cc)
 
-pub opens : (left : ℕ) (p : Place) (x : Unit {0} × Place) → opened left p ≡ Some x → (inside : ℕ) × (left ≡ suc inside) × (x.1 ≡ p)
+pub opens : (left : ℕ) (p : Place) (x : Unit {0} × Place) → opened left p ≡ Read x → (inside : ℕ) × (left ≡ suc inside) × (x.1 ≡ p)
 unfolding opened
 opens zero p x h = absurd (cc)
-opens (suc left) p x h = (left, refl, sym (ap (λ y. y.1) (some-is h)))
+opens (suc left) p x h = (left, refl, sym (ap (λ y. y.1) (read-is h)))
+
+pub opened_by-takes : (s : Sign) (left : ℕ) (p : Place) (x : Unit {0} × Place) → opened_by s left p ≡ Read x
+    → (inside : ℕ) × (left ≡ suc inside) × (line : ℕ) × Takes (spelling.sign_at s line) p x.1
+unfolding opened_by opened
+opened_by-takes s left p x h = go (sees s p) refl left h
+  where
+    go : (b : Bool) → sees s p ≡ b → (left : ℕ) → cond b (and_then (opened left p) (λ _ q. Read (tt, advance q))) (refuse Syntax p) ≡ Read x
+        → (inside : ℕ) × (left ≡ suc inside) × (line : ℕ) × Takes (spelling.sign_at s line) p x.1
+    go true is zero h = absurd (cc)
+    go true is (suc left) h =
+        let (line, takes) = sign-takes p s (sees-sign p s is) in (left, refl, line, along (λ _. Takes (spelling.sign_at s line) p) h takes)
+    go false is left h = absurd (cc)
 
 pub same-most : (a b : ℕ) → a ≡ b → b ≤ 1024 → a ≤ 1024
 same-most a b h few = omega arith
@@ -324,8 +345,8 @@ pub record TakesTyped {A : Type 0} (entries : List (List ℕ × A)) (p : Place) 
   pub instances : q.instances ≡ p.instances
 
 pub typed-takes : {A B : Type 0} (entries : List (List ℕ × A)) (behind : A → Ty → List ℕ → Parser B) (p : Place) (y : B × Place)
-    → and_then (word_in entries p) (λ a r. and_then (expect sign.Lt r) (λ _ r. and_then (ty r) (λ t r. and_then (expect sign.Gt r) (λ _ r. and_then (name r) (behind a t))))) ≡ Some y
-    → (a : A) × (t : Ty) × (w : List ℕ) × (q : Place) × TakesTyped entries p a t w q × (behind a t w q ≡ Some y)
+    → and_then (word_in entries p) (λ a r. and_then (expect sign.Lt r) (λ _ r. and_then (ty r) (λ t r. and_then (expect sign.Gt r) (λ _ r. and_then (name r) (behind a t))))) ≡ Read y
+    → (a : A) × (t : Ty) × (w : List ℕ) × (q : Place) × TakesTyped entries p a t w q × (behind a t w q ≡ Read y)
 typed-takes entries behind p y h =
     let (k, kind-is, h) = bound (word_in entries p) _ y h in
     let (l2, kw, meant, kind) = word_in-takes entries p k kind-is in

@@ -7,7 +7,7 @@ use Rattle.sk_tokens.specs.declared.token.Sign.TheVariants as sign
 use Rattle.sk_tokens.specs.declared.token.Token.{Token}
 use Rattle.sk_tree.specs.declared.tree.Expr.{Expr}
 use Rattle.sk_reading.specs.declared.reach.Reach.TheVariants.{Whole}
-use Rattle.sk_reading.specs.Reading.{Parser, and_then, front, front_of, sees}
+use Rattle.sk_reading.specs.Reading.{Read, Parser, and_then, front, front_of, sees}
 use Rattle.sk_reading.specs.ReadingExpressions.{operand, more, operators, chosen, choice_from, below, arguments_from}
 use Rattle.sk_reading_complete_laws.proofs.expressions.Ends.{continues, Ends, ends_less, infix_ends, not_question}
 use Rattle.sk_reading_complete_laws.proofs.Steps.{at}
@@ -16,11 +16,11 @@ use Rattle.sk_reading_complete_laws.proofs.Steps.{at}
 
 abbrev pub ReadsOperand : Expression → Type 0
 ReadsOperand s = (left n m i : ℕ) (r : List Token) → IsShallow s left → n + nodes_in s ≡ m → m ≤ 1024 → Ends 0 r
-    → operand left (below left) (at (in_front s r) n i) ≡ Some (tree_in s, at r m i)
+    → operand left (below left) (at (in_front s r) n i) ≡ Read (tree_in s, at r m i)
 
 abbrev pub ReadsUpTo : Expression → ℕ → Type 0
 ReadsUpTo s reach = (left n m i : ℕ) (r : List Token) → IsShallow s left → n + nodes_in s ≡ m → m ≤ 1024 → Ends reach r
-    → operators left (below left) reach (at (in_front s r) n i) ≡ Some (tree_in s, at r m i)
+    → operators left (below left) reach (at (in_front s r) n i) ≡ Read (tree_in s, at r m i)
 
 -- the reader of the level above has this as its first part so far
 abbrev pub ReadsChain : Expression → ℕ → Type 0
@@ -39,7 +39,7 @@ abbrev pub ReadsArguments : Arguments → Type 0
 ReadsArguments s = (left n m i line turns : ℕ) (found : List Expr) (r : List Token) → AreShallow s left → n + nodes_of s ≡ m → m ≤ 1024
     → length (arguments_in_front s (sign_at sign.CloseParen line ∷ r)) ≤ turns
     → arguments_from (below (suc left) Whole) turns found (at (arguments_in_front s (sign_at sign.CloseParen line ∷ r)) n i)
-    ≡ Some (found ++ trees_in s, at (sign_at sign.CloseParen line ∷ r) m i)
+    ≡ Read (found ++ trees_in s, at (sign_at sign.CloseParen line ∷ r) m i)
 
 pub record Readable (s : Expression) : Type 0 where
   pub operand_reads : 11 ≤ level_in s → ReadsOperand s
@@ -77,7 +77,7 @@ mutual
 -- ---- levels
 
 more-stops : (left : ℕ) (part : Parser Expr) (reach turns : ℕ) (first : Expr) (r : List Token) (n i : ℕ) → Ends (suc reach) r
-    → more left (below left) part reach turns first (at r n i) ≡ Some (first, at r n i)
+    → more left (below left) part reach turns first (at r n i) ≡ Read (first, at r n i)
 unfolding more front
 more-stops left part reach zero first r n i h = refl
 more-stops left part reach (suc turns) first r n i h = rw (infix_ends reach (front_of r) h) refl

@@ -10,7 +10,7 @@ use Rattle.sk_tree.specs.declared.tree.Expr.TheVariants as tree
 use Rattle.sk_reading.specs.declared.next.Next.{Next}
 use Rattle.sk_reading.specs.declared.next.Next.TheVariants as next
 use Rattle.sk_reading.specs.declared.reach.Reach.{Reach}
-use Rattle.sk_reading.specs.Reading.{Place, Parser, front_of, same_sign, is_sign}
+use Rattle.sk_reading.specs.Reading.{Place, Read, Parser, front_of, same_sign, is_sign}
 use Rattle.sk_reading.specs.ReadingExpressions.{at_reach, infix_at, named_by}
 
 -- the level at which a sign goes on with an expression before it
@@ -71,7 +71,7 @@ not_question (next.Sign s) h = refl
 not_question other h = refl
 
 pub named_ends : (left : ℕ) (inner : Reach → Parser Expr) (first : List ℕ) (reach : ℕ) (nx : Next) → EndsBefore reach (continues nx)
-    → (p : Place) → named_by left inner first nx p ≡ Some (tree.Name first, p)
+    → (p : Place) → named_by left inner first nx p ≡ Read (tree.Name first, p)
 named_ends left inner first reach (next.Sign sign.OpenParen) h p = absurd (omega arith)
 named_ends left inner first reach (next.Sign sign.OpenBracket) h p = absurd (omega arith)
 named_ends left inner first reach (next.Sign sign.Dot) h p = absurd (omega arith)

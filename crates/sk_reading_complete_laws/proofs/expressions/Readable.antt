@@ -12,8 +12,8 @@ use Rattle.sk_tree.specs.declared.tree.Expr.TheVariants as tree
 use Rattle.sk_tree.specs.declared.tree.Un.{Un}
 use Rattle.sk_reading.specs.declared.next.Next.TheVariants as next
 use Rattle.sk_reading.specs.declared.reach.Reach.TheVariants.{Whole, Operand}
-use Rattle.sk_reading.specs.Reading.{front, front_of, advance, sees, after, expect, same_sign, opened}
-use Rattle.sk_reading.specs.ReadingExpressions.{operand, literal, named, member, called, indexed, bracketed, begins_conversion, conversion, parenthesized, prefixed, more, operators, chosen, choice_from, choice, below, arguments, arguments_from}
+use Rattle.sk_reading.specs.Reading.{Read, front, front_of, advance, sees, after, expect, same_sign, opened}
+use Rattle.sk_reading.specs.ReadingExpressions.{opened_by_expression, operand, literal, named, member, called, indexed, bracketed, begins_conversion, conversion, parenthesized, prefixed, more, operators, chosen, choice_from, choice, below, arguments, arguments_from}
 use Rattle.sk_reading_complete_laws.proofs.expressions.Ends.{continues, EndsBefore, Ends, continues_infix, infix_here, not_open, named_ends}
 use Rattle.sk_reading_complete_laws.proofs.expressions.Chains.{ReadsOperand, ReadsUpTo, ReadsChain, ReadsWhole, ReadsArguments, Readable, longer, chain_stops, up_to, chains_up, whole_above, tight}
 use Rattle.sk_reading_complete_laws.proofs.expressions.Starts.{starts, arguments_start, starts-not_close, starts-not_type, typed-is_type, prefix-by, level-least, level-most}
@@ -21,12 +21,12 @@ use Rattle.sk_reading_complete_laws.proofs.Steps.{at, count-ok, keyword-none, na
 
 -- inside of what is opened
 pub whole-inside : (s : Expression) → Readable s → (left n m i : ℕ) (r : List Token) → IsShallow s left → n + nodes_in s ≡ m → m ≤ 1024 → Ends 11 r
-    → below (suc left) Whole (at (in_front s r) n i) ≡ Some (tree_in s, at r m i)
+    → below (suc left) Whole (at (in_front s r) n i) ≡ Read (tree_in s, at r m i)
 unfolding below choice chosen
 whole-inside s is left n m i r shallow sum most h = is.whole_reads left n m i (length (in_front s r)) [] r shallow sum most h (omega arith)
 
 operand-inside : (s : Expression) → Readable s → 11 ≤ level_in s → (left n m i : ℕ) (r : List Token) → IsShallow s left → n + nodes_in s ≡ m → m ≤ 1024 → Ends 0 r
-    → below (suc left) Operand (at (in_front s r) n i) ≡ Some (tree_in s, at r m i)
+    → below (suc left) Operand (at (in_front s r) n i) ≡ Read (tree_in s, at r m i)
 unfolding below
 operand-inside s is level left n m i r shallow sum most h = is.operand_reads level left n m i r shallow sum most h
 
@@ -34,19 +34,19 @@ number-reads : (line : ℕ) (t : Ty) (v : ℤ) → ReadsOperand (Expression.Numb
 unfolding operand literal front
 number-reads line t v left n m i r shallow sum most h =
     rw (count-ok (in_front (Expression.Number line t v) r) n i (omega arith)) (rw (number-ok t v line r (n + 1) i)
-    (ap (λ k. Some (tree.Number t v, at r k i)) sum))
+    (ap (λ k. Read (tree.Number t v, at r k i)) sum))
 
 name-reads : (line : ℕ) (w : List ℕ) → IsName w → ReadsOperand (Expression.Name line w)
 unfolding operand named front
 name-reads line w free left n m i r shallow sum most h =
     rw (keyword-none w free) (rw (count-ok (in_front (Expression.Name line w) r) n i (omega arith)) (rw (name-ok w line r (n + 1) i free)
-    (named_ends left (below left) w 0 (front_of r) h (at r (n + 1) i) ∙ ap (λ k. Some (tree.Name w, at r k i)) sum)))
+    (named_ends left (below left) w 0 (front_of r) h (at r (n + 1) i) ∙ ap (λ k. Read (tree.Name w, at r k i)) sum)))
 
 field-reads : (lines : TokenLines) (w v : List ℕ) → IsName w → IsName v → ReadsOperand (Expression.Field lines w v)
 unfolding operand named member front advance sees
 field-reads lines w v free free' left n m i r shallow sum most h =
     rw (keyword-none w free) (rw (count-ok (in_front (Expression.Field lines w v) r) n i (omega arith)) (rw (name-ok w (lines 0) (sign_at sign.Dot (lines 1) ∷ word v (lines 2) ∷ r) (n + 1) i free)
-    (rw (name-ok v (lines 2) r (n + 1) i free') (rw (not_open 0 (front_of r) h) (ap (λ k. Some (tree.Field w v, at r k i)) sum)))))
+    (rw (name-ok v (lines 2) r (n + 1) i free') (rw (not_open 0 (front_of r) h) (ap (λ k. Read (tree.Field w v, at r k i)) sum)))))
 
 method-reads : (lines : TokenLines) (w v : List ℕ) → IsName w → IsName v → ReadsOperand (Expression.Method lines w v)
 unfolding operand named member front advance sees opened expect same_sign
@@ -55,7 +55,7 @@ method-reads lines w v free free' (suc left) n m i r shallow sum most h =
     rw (keyword-none w free) (rw (count-ok (in_front (Expression.Method lines w v) r) n i (omega arith))
     (rw (name-ok w (lines 0) (sign_at sign.Dot (lines 1) ∷ word v (lines 2) ∷ sign_at sign.OpenParen (lines 3) ∷ sign_at sign.CloseParen (lines 4) ∷ r) (n + 1) i free)
     (rw (name-ok v (lines 2) (sign_at sign.OpenParen (lines 3) ∷ sign_at sign.CloseParen (lines 4) ∷ r) (n + 1) i free')
-    (ap (λ k. Some (tree.Method w v, at r k i)) sum))))
+    (ap (λ k. Read (tree.Method w v, at r k i)) sum))))
 
 alone-reads : (lines : TokenLines) (w : List ℕ) → IsName w → ReadsOperand (Expression.Alone lines w)
 unfolding operand named called front advance sees after opened same_sign
@@ -63,7 +63,7 @@ alone-reads lines w free zero n m i r shallow sum most h = absurd shallow
 alone-reads lines w free (suc left) n m i r shallow sum most h =
     rw (keyword-none w free) (rw (count-ok (in_front (Expression.Alone lines w) r) n i (omega arith))
     (rw (name-ok w (lines 0) (sign_at sign.OpenParen (lines 1) ∷ sign_at sign.CloseParen (lines 2) ∷ r) (n + 1) i free)
-    (ap (λ k. Some (tree.Apply w [], at r k i)) sum)))
+    (ap (λ k. Read (tree.Apply w [], at r k i)) sum)))
 
 apply-reads : (lines : TokenLines) (w : List ℕ) (s : Arguments) → IsName w → AreLawful s → ReadsArguments s → ReadsOperand (Expression.Apply lines w s)
 unfolding operand named called front advance sees after opened same_sign arguments expect
@@ -146,25 +146,25 @@ join line sg j a b lawful one two =
       whole_reads = whole_above s (chain_stops s 9 (chains_up s own chain 9 (omega (arith, low, high))));
     }
 
-choose-whole : (lines : TokenLines) (a b c : Expression) → 0 < level_in a → Readable a → Readable b → Readable c → ReadsWhole (Expression.Choose lines a b c)
-unfolding choice_from chosen sees front advance opened same_sign expect
-choose-whole lines a b c above one two three zero n m i turns tests r shallow sum most h enough = absurd shallow.2
-choose-whole lines a b c above one two three (suc left) n m i zero tests r shallow sum most h enough =
+choose-whole : (lines : TokenLines) (a b c : Expression) → 0 < level_in a → IsLawful c → Readable a → Readable b → Readable c → ReadsWhole (Expression.Choose lines a b c)
+unfolding choice_from chosen sees front advance opened opened_by_expression same_sign expect
+choose-whole lines a b c above lawful one two three zero n m i turns tests r shallow sum most h enough = absurd shallow.2
+choose-whole lines a b c above lawful one two three (suc left) n m i zero tests r shallow sum most h enough =
     absurd (omega (arith, longer a (sign_at sign.Question (lines 0) ∷ in_front b (sign_at sign.Colon (lines 1) ∷ in_front c r))))
-choose-whole lines a b c above one two three (suc left) n m i (suc turns) tests r shallow sum most h enough =
+choose-whole lines a b c above lawful one two three (suc left) n m i (suc turns) tests r shallow sum most h enough =
     let later = sign_at sign.Colon (lines 1) ∷ in_front c r in
     let behind = sign_at sign.Question (lines 0) ∷ in_front b later in
     let k = n + nodes_in a in
     rw (up_to a one 10 (omega arith) (omega (arith, above)) (suc left) n k i behind shallow.0 refl (omega (arith, sum)) (omega arith))
     (rw (count-ok behind k i (omega (arith, sum)))
     (two.whole_reads (suc left) (k + 1) (k + 1 + nodes_in b) i turns (tree_in a ∷ tests) later shallow.1 refl (omega (arith, sum)) tt (omega (arith, longer a behind))
-    ∙ rw (whole-inside c three left (k + 1 + nodes_in b) m i r shallow.2 (omega (arith, sum)) most h) refl))
+    ∙ rw (starts c r lawful) (rw (whole-inside c three left (k + 1 + nodes_in b) m i r shallow.2 (omega (arith, sum)) most h) refl)))
 
-choose : (lines : TokenLines) (a b c : Expression) → 0 < level_in a → Readable a → Readable b → Readable c → Readable (Expression.Choose lines a b c)
-choose lines a b c above one two three = record {
+choose : (lines : TokenLines) (a b c : Expression) → 0 < level_in a → IsLawful c → Readable a → Readable b → Readable c → Readable (Expression.Choose lines a b c)
+choose lines a b c above lawful one two three = record {
   operand_reads = λ level. absurd (omega arith);
   chain_reads = λ reach most level. absurd (omega arith);
-  whole_reads = choose-whole lines a b c above one two three;
+  whole_reads = choose-whole lines a b c above lawful one two three;
 }
 
 last-reads : (s : Expression) → Readable s → ReadsArguments (Arguments.Last s)
@@ -181,7 +181,7 @@ more-read s comma ss reads others left n m i line (suc turns) found r shallow su
     let later = arguments_in_front ss (sign_at sign.CloseParen line ∷ r) in
     rw (whole-inside s reads left n (n + nodes_in s) i (sign_at sign.Comma comma ∷ later) shallow.0 refl (omega (arith, sum)) tt)
     (others left (n + nodes_in s) m i line turns (found ++ tree_in s ∷ []) r shallow.1 (omega (arith, sum)) most (omega (arith, longer s (sign_at sign.Comma comma ∷ later)))
-    ∙ ap (λ l. Some (l, at (sign_at sign.CloseParen line ∷ r) m i)) (append_assoc found (tree_in s ∷ []) (trees_in ss)))
+    ∙ ap (λ l. Read (l, at (sign_at sign.CloseParen line ∷ r) m i)) (append_assoc found (tree_in s ∷ []) (trees_in ss)))
 
 mutual
   pub readable : (s : Expression) → IsLawful s → Readable s
@@ -196,7 +196,7 @@ mutual
   readable (Expression.Prefix line sg op s) h = tight (Expression.Prefix line sg op s) (omega arith) (prefix-reads line sg op s h.0 h.1 (readable s h.2))
   readable (Expression.Convert lines t s) h = tight (Expression.Convert lines t s) (omega arith) (convert-reads lines t s h.0 (readable s h.1))
   readable (Expression.Join line sg j a b) h = join line sg j a b h (readable a h.3) (readable b h.4)
-  readable (Expression.Choose lines a b c) h = choose lines a b c h.0 (readable a h.1) (readable b h.2) (readable c h.3)
+  readable (Expression.Choose lines a b c) h = choose lines a b c h.0 h.3 (readable a h.1) (readable b h.2) (readable c h.3)
 
   pub arguments_readable : (ss : Arguments) → AreLawful ss → ReadsArguments ss
   arguments_readable (Arguments.Last s) h = last-reads s (readable s h)

@@ -10,7 +10,7 @@ use Rattle.sk_tokens.specs.declared.token.Token.{Token}
 use Rattle.sk_tree.specs.declared.tree.Statement.{Statement}
 use Rattle.sk_reading.specs.declared.keyword.Keyword.TheVariants as key
 use Rattle.sk_reading.specs.declared.part.Part.TheVariants as part
-use Rattle.sk_reading.specs.Reading.{Place, keyword_of, front, front_of, word_next, advance, sees, sees_keyword, expect, same_sign, same_keyword, is_keyword, opened, front_line}
+use Rattle.sk_reading.specs.Reading.{Place, Read, keyword_of, front, front_of, word_next, advance, sees, sees_keyword, expect, same_sign, same_keyword, is_keyword, opened, opened_by, front_line}
 use Rattle.sk_reading.specs.ReadingStatements as reading
 use Rattle.sk_reading_complete_laws.proofs.statements.Forms.{simple-ok, make-ok, take-ok, instance-ok, return-ok, call-ok, set_value-ok, set_overlap-ok, set_mode-ok, print-ok}
 use Rattle.sk_reading_complete_laws.proofs.statements.Assignments.{value-ok, value_inside-ok, assignment-ok}
@@ -20,28 +20,28 @@ use Rattle.sk_reading_complete_laws.proofs.statements.Tokens.{begins, written_lo
 
 abbrev pub BlockIsRead : Block → Type 0
 BlockIsRead b = (left n i j : ℕ) (r : List Token) → BlockFits b left → i + block_instances b ≡ j → j ≤ 1024
-    → (m : ℕ) × (reading.block left (reading.part_below left) (at (block_in_front b r) n i) ≡ Some (block_tree b, at r m j))
+    → (m : ℕ) × (reading.block left (reading.part_below left) (at (block_in_front b r) n i) ≡ Read (block_tree b, at r m j))
 
 abbrev BranchIsRead : Branch → Type 0
 BranchIsRead b = (left line n i j : ℕ) (r : List Token) → BranchFits b left → i + branch_instances b ≡ j → j ≤ 1024 → NoElse r
-    → (m : ℕ) × (reading.branch left (reading.part_below left) (at (word (codes "if") line ∷ branch_in_front b r) n i) ≡ Some (branch_tree b, at r m j))
+    → (m : ℕ) × (reading.branch left (reading.part_below left) (at (word (codes "if") line ∷ branch_in_front b r) n i) ≡ Read (branch_tree b, at r m j))
 
 abbrev OtherwiseIsRead : Otherwise → Type 0
 OtherwiseIsRead o = (left n i j : ℕ) (r : List Token) → OtherwiseFits o left → i + otherwise_instances o ≡ j → j ≤ 1024 → NoElse r
-    → (m : ℕ) × (reading.otherwise left (reading.part_below left) (at (otherwise_in_front o r) n i) ≡ Some (otherwise_tree o, at r m j))
+    → (m : ℕ) × (reading.otherwise left (reading.part_below left) (at (otherwise_in_front o r) n i) ≡ Read (otherwise_tree o, at r m j))
 
 abbrev StatementListIsRead : Statements → Type 0
 StatementListIsRead ss = (left line turns n i j : ℕ) (found : List Statement) (r : List Token) → StatementsFit ss left → i + instances_in ss ≡ j → j ≤ 1024
     → length (statements_in_front ss (sign_at sign.CloseBrace line ∷ r)) ≤ turns
     → (m : ℕ) × (reading.statements_from left (reading.part_below left) turns found (at (statements_in_front ss (sign_at sign.CloseBrace line ∷ r)) n i)
-    ≡ Some (found ++ statements_tree ss, at (sign_at sign.CloseBrace line ∷ r) m j))
+    ≡ Read (found ++ statements_tree ss, at (sign_at sign.CloseBrace line ∷ r) m j))
 
 part-inside : (left : ℕ) (kind : Part) (p : Place) → reading.part_below (suc left) kind p ≡ reading.part left (reading.part_below left) kind p
 unfolding reading.part_below
 part-inside left kind p = refl
 
 braces-read : (lines : TokenLines) (ss : Statements) → StatementListIsRead ss → BlockIsRead (Block.Braces lines ss)
-unfolding reading.block front advance sees expect opened same_sign
+unfolding reading.block front advance sees expect opened opened_by same_sign
 braces-read lines ss reads zero n i j r fits sum most = absurd fits
 braces-read lines ss reads (suc left) n i j r fits sum most =
     let inside = statements_in_front ss (sign_at sign.CloseBrace (lines 1) ∷ r) in
@@ -52,7 +52,7 @@ done-reads : StatementListIsRead Statements.Done
 unfolding reading.statements_from front sees same_sign
 done-reads left line zero n i j found r fits sum most enough = absurd (omega arith)
 done-reads left line (suc turns) n i j found r fits sum most enough =
-    (n, ap (λ l. Some (l, at (sign_at sign.CloseBrace line ∷ r) n i)) (sym (append-nil found)) ∙ ap (λ k. Some (found ++ [], at (sign_at sign.CloseBrace line ∷ r) n k)) (same_number i j sum))
+    (n, ap (λ l. Read (l, at (sign_at sign.CloseBrace line ∷ r) n i)) (sym (append-nil found)) ∙ ap (λ k. Read (found ++ [], at (sign_at sign.CloseBrace line ∷ r) n k)) (same_number i j sum))
 
 no-else : (ss : Statements) → AreLawfulStatements ss → (line : ℕ) (r : List Token) → NoElse (statements_in_front ss (sign_at sign.CloseBrace line ∷ r))
 no-else Statements.Done lawful line r = refl
@@ -67,11 +67,11 @@ then-read w ss lawful others reads read-others left line (suc turns) n i j found
     let k = i + written_instances w in
     let (m, read) = reads left n i k later fits.0 refl (omega (arith, sum)) (no-else ss others line r) in
     let (m', rest) = read-others left line turns m k j (found ++ written_tree w ∷ []) r fits.1 (omega (arith, sum)) most (omega (arith, written_longer w later lawful)) in
-    (m', rw (begins w later lawful).0 (rw read (rest ∙ ap (λ l. Some (l, at (sign_at sign.CloseBrace line ∷ r) m' j)) (append_assoc found (written_tree w ∷ []) (statements_tree ss)))))
+    (m', rw (begins w later lawful).0 (rw read (rest ∙ ap (λ l. Read (l, at (sign_at sign.CloseBrace line ∷ r) m' j)) (append_assoc found (written_tree w ∷ []) (statements_tree ss)))))
 
 nothing-reads : OtherwiseIsRead Otherwise.Nothing
 unfolding reading.otherwise front sees_keyword
-nothing-reads left n i j r fits sum most h = (n, rw h (ap (λ k. Some ([], at r n k)) (same_number i j sum)))
+nothing-reads left n i j r fits sum most h = (n, rw h (ap (λ k. Read ([], at r n k)) (same_number i j sum)))
 
 block-first : (b : Block) (r : List Token) → is_keyword key.If (front_of (block_in_front b r)) ≡ false
 block-first (Block.Braces lines ss) r = refl
@@ -89,7 +89,7 @@ else_if-reads lines b reads (suc left) n i j r fits sum most h =
     (m, rw (part-inside left part.Branch (at (word (codes "if") (lines 1) ∷ branch_in_front b r) n i)) (rw read refl))
 
 test-reads : (lines : TokenLines) (s : Expression) (b : Block) (o : Otherwise) → IsLawful s → BlockIsRead b → OtherwiseIsRead o → BranchIsRead (Branch.Test lines s b o)
-unfolding reading.branch front advance sees expect opened same_sign
+unfolding reading.branch front advance sees expect opened opened_by same_sign
 test-reads lines s b o lawful block-reads other-reads zero line n i j r fits sum most h = absurd fits.0
 test-reads lines s b o lawful block-reads other-reads (suc left) line n i j r fits sum most h =
     let later = block_in_front b (otherwise_in_front o r) in
@@ -105,7 +105,7 @@ if-reads line b reads left n i j r fits sum most h =
 
 for-reads : (lines : TokenLines) (first : Simple) (test : Expression) (step : Assignment) (b : Block) → StatementSpelling.IsLawfulSimple first → IsLawful test
     → StatementSpelling.IsLawfulAssignment step → BlockIsRead b → StatementIsRead (Written.For lines first test step b)
-unfolding reading.statement reading.doing front_line reading.turned reading.head front keyword_of advance sees expect opened same_sign
+unfolding reading.statement reading.doing front_line reading.turned reading.head front keyword_of advance sees expect opened opened_by same_sign
 for-reads lines first test step b lawful lawful' lawful'' reads zero n i j r fits sum most h = absurd fits.0
 for-reads lines first test step b lawful lawful' lawful'' reads (suc left) n i j r fits sum most h =
     let close = sign_at sign.CloseParen (lines 4) ∷ block_in_front b r in
@@ -128,7 +128,7 @@ mutual
       let (m, read) = instance-ok lines w k skeleton ns fs lawful.0 lawful.1 lawful.2 lawful.3 lawful.4 left fits r n i (omega (arith, sum)) in (
         m,
         short-statement left (lines 0) (written_tree (Written.Instantiate lines w k skeleton ns fs)).what (written_in_front (Written.Instantiate lines w k skeleton ns fs) r) n i m (i + 1) r
-            auto-short refl read ∙ ap (λ z. Some (written_tree (Written.Instantiate lines w k skeleton ns fs), at r m z)) sum,
+            auto-short refl read ∙ ap (λ z. Read (written_tree (Written.Instantiate lines w k skeleton ns fs), at r m z)) sum,
       )
   statement-reads (Written.SetValue lines w k sets s) lawful =
       plain-reads (Written.SetValue lines w k sets s) (λ r. name-short (word_next (keyword_of w)) (ap word_next (keyword-none w lawful.0))) (λ r. refl) refl

@@ -17,7 +17,7 @@ use Rattle.sk_reading.specs.declared.next.Next.{Next}
 use Rattle.sk_reading.specs.declared.next.Next.TheVariants as next
 use Rattle.sk_reading.specs.declared.keyword.Keyword.TheVariants as key
 use Rattle.sk_reading.specs.declared.update.Update.TheVariants.{Step}
-use Rattle.sk_reading.specs.Reading.{Place, and_then, keyword_of, front, front_of, word_next, Outcome, advance, sees, expect, same_sign, is_sign, is_keyword, line_of, front_line}
+use Rattle.sk_reading.specs.Reading.{Place, Read, and_then, keyword_of, front, front_of, word_next, Outcome, advance, sees, expect, same_sign, is_sign, is_keyword, line_of, front_line}
 use Rattle.sk_reading.specs.ReadingAssignments as assignments
 use Rattle.sk_reading.specs.ReadingForms as forms
 use Rattle.sk_reading.specs.ReadingStatements as reading
@@ -32,23 +32,23 @@ NoElse r = is_keyword key.Else (front_of r) ≡ false
 
 abbrev pub ShortIsRead : Written → Type 0
 ShortIsRead w = (left n i j : ℕ) (r : List Token) → WrittenFits w left → i + written_instances w ≡ j → j ≤ 1024
-    → (m : ℕ) × (forms.short left (at (written_in_front w r) n i) ≡ Some ((written_tree w).what, at r m j))
+    → (m : ℕ) × (forms.short left (at (written_in_front w r) n i) ≡ Read ((written_tree w).what, at r m j))
 
 abbrev pub StatementIsRead : Written → Type 0
 StatementIsRead w = (left n i j : ℕ) (r : List Token) → WrittenFits w left → i + written_instances w ≡ j → j ≤ 1024 → NoElse r
-    → (m : ℕ) × (reading.statement left (reading.part_below left) (at (written_in_front w r) n i) ≡ Some (written_tree w, at r m j))
+    → (m : ℕ) × (reading.statement left (reading.part_below left) (at (written_in_front w r) n i) ≡ Read (written_tree w, at r m j))
 
 -- a statement with this front is a short one
 abbrev pub IsShort : Next → Type 0
 IsShort nx = (left of : ℕ) (p : Place) → reading.statement_by left (reading.part_below left) of nx p ≡ forms.short left p
 
 pub short-statement : (left : ℕ) (line : ℕ) (does : What) (tokens : List Token) (n i m j : ℕ) (r : List Token) → IsShort (front_of tokens) → line_of tokens ≡ line
-    → forms.short left (at tokens n i) ≡ Some (does, at r m j)
-    → reading.statement left (reading.part_below left) (at tokens n i) ≡ Some (at_line line does, at r m j)
+    → forms.short left (at tokens n i) ≡ Read (does, at r m j)
+    → reading.statement left (reading.part_below left) (at tokens n i) ≡ Read (at_line line does, at r m j)
 unfolding reading.statement reading.doing front_line front
 short-statement left line does tokens n i m j r short is-line read =
-    ap (λ (o : Outcome What). and_then o (λ d q. Some (at_line (line_of tokens) d, q))) (short left (line_of tokens) (at tokens n i) ∙ read)
-    ∙ ap (λ l. Some (at_line l does, at r m j)) is-line
+    ap (λ (o : Outcome What). and_then o (λ d q. Read (at_line (line_of tokens) d, q))) (short left (line_of tokens) (at tokens n i) ∙ read)
+    ∙ ap (λ l. Read (at_line l does, at r m j)) is-line
 
 pub name-short : (nx : Next) → nx ≡ next.Name → IsShort nx
 name-short nx is left of p = ap (λ x. reading.statement_by left (reading.part_below left) of x p) is
@@ -75,7 +75,7 @@ declare-short lines t w s line free lawful left n i j r fits sum most =
     let rest = word w (lines 1) ∷ sign_at sign.Eq (lines 2) ∷ in_front s end in (
       nodes_in s,
       rw (declares t (lines 0) left rest (at (typed t (lines 0) ∷ rest) n i)) (rw (declaration-ok lines t w s free lawful left fits end tt n i)
-          (ap (λ k. Some (what.Declare t w (tree_in s), at r (nodes_in s) k)) (same_number i j sum))),
+          (ap (λ k. Read (what.Declare t w (tree_in s), at r (nodes_in s) k)) (same_number i j sum))),
     )
 
 second-not-dot : (t : Target) (sg : Sign) (line : ℕ) (r : List Token) → IsUpdate sg → is_sign sign.Dot (front_of (drop 1 (StatementSpelling.target_in_front t (sign_at sg line ∷ r)))) ≡ false
@@ -94,7 +94,7 @@ assign-short t line sg how s line' lawful left n i j r fits sum most =
       nodes_in s,
       rw (target-name t lawful.0 (sign_at sg line ∷ in_front s end)) (rw (second-not-dot t sg line (in_front s end) update) (rw read (rw update.semi
           (rw (update-ok t line sg how s lawful.1 lawful.2 left fits.1 end tt m i)
-          (ap (λ k. Some (StatementSpelling.assignment_tree (Assignment.Assign t line sg how s), at r (nodes_in s) k)) (same_number i j sum)))))),
+          (ap (λ k. Read (StatementSpelling.assignment_tree (Assignment.Assign t line sg how s), at r (nodes_in s) k)) (same_number i j sum)))))),
     )
 
 step-short : (t : Target) (line : ℕ) (sg : Sign) (operator : Op) (line' : ℕ) → StatementSpelling.IsLawfulAssignment (Assignment.StepAfter t line sg operator)
@@ -107,7 +107,7 @@ step-short t line sg operator line' lawful left n i j r fits sum most =
       m,
       rw (target-name t lawful.0 (sign_at sg line ∷ end)) (rw (second-not-dot t sg line end update) (rw read (rw update.semi
           (rw (step-ok t line sg operator lawful.1 left end m i)
-          (ap (λ k. Some (StatementSpelling.assignment_tree (Assignment.StepAfter t line sg operator), at r m k)) (same_number i j sum)))))),
+          (ap (λ k. Read (StatementSpelling.assignment_tree (Assignment.StepAfter t line sg operator), at r m k)) (same_number i j sum)))))),
     )
 
 before-short : (line : ℕ) (sg : Sign) (operator : Op) (t : Target) (line' : ℕ) → StatementSpelling.IsLawfulAssignment (Assignment.StepBefore line sg operator t)
@@ -116,7 +116,7 @@ unfolding forms.short forms.begun front advance sees expect same_sign
 before-short line sg operator t line' lawful left n i j r fits sum most =
     let a = Assignment.StepBefore line sg operator t in
     let (m, read) = assignment-ok a lawful left fits (sign_at sign.Semi line' ∷ r) tt refl n i in
-    (m, rw read (ap (λ k. Some (StatementSpelling.assignment_tree a, at r m k)) (same_number i j sum)))
+    (m, rw read (ap (λ k. Read (StatementSpelling.assignment_tree a, at r m k)) (same_number i j sum)))
 
 pub simply-reads : (s : Simple) (line : ℕ) → StatementSpelling.IsLawfulSimple s → StatementIsRead (Written.Simply s line)
 simply-reads (Simple.Declare lines t w s) line lawful left n i j r fits sum most h =
@@ -151,12 +151,12 @@ simply-reads (Simple.Assigning (Assignment.StepBefore line' sg operator t)) line
 
 -- a short statement that counts no instance
 pub plain-reads : (w : Written) → ((r : List Token) → IsShort (front_of (written_in_front w r))) → ((r : List Token) → line_of (written_in_front w r) ≡ (written_tree w).line) → written_instances w ≡ 0
-    → ((left n i : ℕ) (r : List Token) → WrittenFits w left → (m : ℕ) × (forms.short left (at (written_in_front w r) n i) ≡ Some ((written_tree w).what, at r m i)))
+    → ((left n i : ℕ) (r : List Token) → WrittenFits w left → (m : ℕ) × (forms.short left (at (written_in_front w r) n i) ≡ Read ((written_tree w).what, at r m i)))
     → StatementIsRead w
 plain-reads w short is-line none read left n i j r fits sum most h =
     let (m, is) = read left n i r fits in
     let same : i ≡ j = omega (arith, none, sum) in
-    (m, short-statement left (written_tree w).line (written_tree w).what (written_in_front w r) n i m i r (short r) (is-line r) is ∙ ap (λ k. Some (written_tree w, at r m k)) same)
+    (m, short-statement left (written_tree w).line (written_tree w).what (written_in_front w r) n i m i r (short r) (is-line r) is ∙ ap (λ k. Read (written_tree w, at r m k)) same)
 
 -- by keywords
 pub make-short : IsShort (word_next (keyword_of (codes "skepu")))

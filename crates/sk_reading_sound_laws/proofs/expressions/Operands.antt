@@ -12,7 +12,7 @@ use Rattle.sk_tree.specs.declared.tree.Un.{Un}
 use Rattle.sk_reading.specs.declared.next.Next.{Next}
 use Rattle.sk_reading.specs.declared.next.Next.TheVariants as next
 use Rattle.sk_reading.specs.declared.reach.Reach.TheVariants.{Whole, Operand}
-use Rattle.sk_reading.specs.Reading.{Place, Parser, and_then, front, advance, sees, after, expect, name, number, ty, count_node, opened}
+use Rattle.sk_reading.specs.Reading.{Place, Read, Parser, and_then, front, advance, sees, after, expect, name, number, ty, count_node, opened}
 use Rattle.sk_reading.specs.ReadingExpressions.{operand, operand_by, literal, named, named_by, member, called, indexed, bracketed, begins_conversion, conversion, parenthesized, prefixed, prefixed_by, below, arguments, arguments_from}
 use Rattle.sk_reading_sound_laws.proofs.Commas.{loop-sound}
 use Rattle.sk_reading_sound_laws.proofs.Steps.{lines_of, bound, along, Takes, sign-takes, sees-sign, expect-takes, name-takes, number-takes, ty-takes, count-counts, opens}
@@ -39,14 +39,14 @@ pub record SpelledArguments (left : ℕ) (p : Place) (es : List Expr) (q : Place
   pub instances : q.instances ≡ p.instances
 
 abbrev pub Sound : (left reach : ℕ) → Parser Expr → Type 0
-Sound left reach read = (p : Place) (x : Expr × Place) → read p ≡ Some x → Spelled left reach p x.0 x.1
+Sound left reach read = (p : Place) (x : Expr × Place) → read p ≡ Read x → Spelled left reach p x.0 x.1
 
 -- a reader of what is inside
 abbrev pub SoundBelow : ℕ → Type 0
 SoundBelow zero = Unit {0}
 SoundBelow (suc left) = Sound left 11 (below (suc left) Whole) × Sound left 0 (below (suc left) Operand)
 
-literal-sound : (left : ℕ) (p : Place) (x : Expr × Place) → literal left (below left) p ≡ Some x → Spelled left 0 p x.0 x.1
+literal-sound : (left : ℕ) (p : Place) (x : Expr × Place) → literal left (below left) p ≡ Read x → Spelled left 0 p x.0 x.1
 unfolding literal
 literal-sound left p x h =
     let (c, count-is, h) = bound (count_node p) _ x h in
@@ -66,7 +66,7 @@ literal-sound left p x h =
     })
 
 parenthesized-sound : (left : ℕ) → SoundBelow left → (p : Place) → front p ≡ next.Sign sign.OpenParen → (x : Expr × Place)
-    → parenthesized left (below left) p ≡ Some x → Spelled left 0 p x.0 x.1
+    → parenthesized left (below left) p ≡ Read x → Spelled left 0 p x.0 x.1
 unfolding parenthesized opened advance
 parenthesized-sound zero inside p first x h = absurd (cc)
 parenthesized-sound (suc left) inside p first x h =
@@ -87,7 +87,7 @@ parenthesized-sound (suc left) inside p first x h =
       instances = closing.instances ∙ s.instances;
     })
 
-conversion-sound : (left : ℕ) → SoundBelow left → (p : Place) (x : Expr × Place) → conversion left (below left) p ≡ Some x → Spelled left 0 p x.0 x.1
+conversion-sound : (left : ℕ) → SoundBelow left → (p : Place) (x : Expr × Place) → conversion left (below left) p ≡ Read x → Spelled left 0 p x.0 x.1
 unfolding conversion opened
 conversion-sound zero inside p x h = absurd (cc)
 conversion-sound (suc left) inside p x h =
@@ -115,7 +115,7 @@ conversion-sound (suc left) inside p x h =
     })
 
 prefixed-sound : (left : ℕ) → SoundBelow left → (p : Place) (sg : Sign) (op : Un) → front p ≡ next.Sign sg → prefix_of sg ≡ Some op → (x : Expr × Place)
-    → prefixed left (below left) op p ≡ Some x → Spelled left 0 p x.0 x.1
+    → prefixed left (below left) op p ≡ Read x → Spelled left 0 p x.0 x.1
 unfolding prefixed opened advance
 prefixed-sound zero inside p sg op first is x h = absurd (cc)
 prefixed-sound (suc left) inside p sg op first is x h =
@@ -137,11 +137,11 @@ prefixed-sound (suc left) inside p sg op first is x h =
     })
 
 bracketed-sound : (left : ℕ) → SoundBelow left → (p : Place) → front p ≡ next.Sign sign.OpenParen → (x : Expr × Place)
-    → bracketed left (below left) p ≡ Some x → Spelled left 0 p x.0 x.1
+    → bracketed left (below left) p ≡ Read x → Spelled left 0 p x.0 x.1
 unfolding bracketed
 bracketed-sound left inside p first x h = go (begins_conversion p) h
   where
-    go : (b : Bool) → cond b (conversion left (below left) p) (parenthesized left (below left) p) ≡ Some x → Spelled left 0 p x.0 x.1
+    go : (b : Bool) → cond b (conversion left (below left) p) (parenthesized left (below left) p) ≡ Read x → Spelled left 0 p x.0 x.1
     go true h = conversion-sound left inside p x h
     go false h = parenthesized-sound left inside p first x h
 
@@ -155,13 +155,13 @@ record Begun (line : ℕ) (w : List ℕ) (p q : Place) : Type 0 where
   few : q.nodes ≤ 1024
   instances : q.instances ≡ p.instances
 
-arguments_from-sound : (left : ℕ) (read : Parser Expr) → Sound left 11 read → (turns : ℕ) (found : List Expr) (p : Place) (x : List Expr × Place) → arguments_from read turns found p ≡ Some x
+arguments_from-sound : (left : ℕ) (read : Parser Expr) → Sound left 11 read → (turns : ℕ) (found : List Expr) (p : Place) (x : List Expr × Place) → arguments_from read turns found p ≡ Read x
     → (es : List Expr) × (x.0 ≡ found ++ es) × SpelledArguments left p es x.1
 unfolding arguments_from after
 arguments_from-sound left read sound =
     loop-sound read (λ e. e) (arguments_from read) (SpelledArguments left) (λ found p. refl, λ turns found p. refl) last before
   where
-    last : (p : Place) (a : Expr × Place) → read p ≡ Some a → SpelledArguments left p (a.0 ∷ []) a.1
+    last : (p : Place) (a : Expr × Place) → read p ≡ Read a → SpelledArguments left p (a.0 ∷ []) a.1
     last p a is =
         let s = sound p a is in
         record {
@@ -175,7 +175,7 @@ arguments_from-sound left read sound =
           instances = s.instances;
         }
 
-    before : (p : Place) (a : Expr × Place) → read p ≡ Some a → (line : ℕ) → Takes (sign_at sign.Comma line) a.1 (advance a.1)
+    before : (p : Place) (a : Expr × Place) → read p ≡ Read a → (line : ℕ) → Takes (sign_at sign.Comma line) a.1 (advance a.1)
         → (es : List Expr) (q : Place) → SpelledArguments left (advance a.1) es q → SpelledArguments left p (a.0 ∷ es) q
     before p a is line comma es q others =
         let s = sound p a is in
@@ -191,15 +191,15 @@ arguments_from-sound left read sound =
         }
 
 called-sound : (left : ℕ) → SoundBelow left → (p q : Place) (line : ℕ) (w : List ℕ) → Begun line w p q → front q ≡ next.Sign sign.OpenParen
-    → (x : Expr × Place) → called left (below left) w q ≡ Some x → Spelled left 0 p x.0 x.1
+    → (x : Expr × Place) → called left (below left) w q ≡ Read x → Spelled left 0 p x.0 x.1
 unfolding called opened advance after arguments
 called-sound zero inside p q line w begun first x h = absurd (cc)
 called-sound (suc left) inside p q line w begun first x h = go (sees sign.CloseParen (advance q)) refl h
   where
     go : (b : Bool) → sees sign.CloseParen (advance q) ≡ b
-        → cond {A = Parser Expr} b (λ r. Some (tree.Apply w [], r))
-        (λ r. and_then (arguments false (below (suc left) Whole) r) (λ found r. and_then (expect sign.CloseParen r) (λ _ r. Some (tree.Apply w found, r))))
-        (cond b (advance (advance q)) (advance q)) ≡ Some x
+        → cond {A = Parser Expr} b (λ r. Read (tree.Apply w [], r))
+        (λ r. and_then (arguments false (below (suc left) Whole) r) (λ found r. and_then (expect sign.CloseParen r) (λ _ r. Read (tree.Apply w found, r))))
+        (cond b (advance (advance q)) (advance q)) ≡ Read x
         → Spelled (suc left) 0 p x.0 x.1
     go true is h =
         let (line', opening) = sign-takes q sign.OpenParen first in
@@ -235,7 +235,7 @@ called-sound (suc left) inside p q line w begun first x h = go (sees sign.CloseP
         })
 
 indexed-sound : (left : ℕ) → SoundBelow left → (p q : Place) (line : ℕ) (w : List ℕ) → Begun line w p q → front q ≡ next.Sign sign.OpenBracket
-    → (x : Expr × Place) → indexed left (below left) w q ≡ Some x → Spelled left 0 p x.0 x.1
+    → (x : Expr × Place) → indexed left (below left) w q ≡ Read x → Spelled left 0 p x.0 x.1
 unfolding indexed opened advance
 indexed-sound zero inside p q line w begun first x h = absurd (cc)
 indexed-sound (suc left) inside p q line w begun first x h =
@@ -258,7 +258,7 @@ indexed-sound (suc left) inside p q line w begun first x h =
     })
 
 member-sound : (left : ℕ) (p q : Place) (line : ℕ) (w : List ℕ) → Begun line w p q → front q ≡ next.Sign sign.Dot
-    → (x : Expr × Place) → member left (below left) w q ≡ Some x → Spelled left 0 p x.0 x.1
+    → (x : Expr × Place) → member left (below left) w q ≡ Read x → Spelled left 0 p x.0 x.1
 unfolding member advance
 member-sound left p q line w begun first x h =
     let (line', dot) = sign-takes q sign.Dot first in
@@ -270,7 +270,7 @@ member-sound left p q line w begun first x h =
     go : (a : List ℕ × Place) (line' line'' : ℕ) → IsTrue (is_name a.0) → a.1.nodes ≡ p.nodes + 1 → a.1.nodes ≤ 1024 → a.1.instances ≡ p.instances
         → p.rest ≡ word w line ∷ sign_at sign.Dot line' ∷ word a.0 line'' ∷ a.1.rest
         → (b : Bool) → sees sign.OpenParen a.1 ≡ b
-        → cond {A = Parser Expr} b (λ r. and_then (opened left r) (λ _ r. and_then (expect sign.CloseParen (advance r)) (λ _ r. Some (tree.Method w a.0, r)))) (λ r. Some (tree.Field w a.0, r)) a.1 ≡ Some x
+        → cond {A = Parser Expr} b (λ r. and_then (opened left r) (λ _ r. and_then (expect sign.CloseParen (advance r)) (λ _ r. Read (tree.Method w a.0, r)))) (λ r. Read (tree.Field w a.0, r)) a.1 ≡ Read x
         → Spelled left 0 p x.0 x.1
     go a line' line'' free nodes few instances tokens false is h = along (Spelled left 0 p) h (record {
       spelling = Expression.Field (lines_of (line ∷ line' ∷ line'' ∷ [])) w a.0;
@@ -302,7 +302,7 @@ member-sound left p q line w begun first x h =
           instances = closing.instances ∙ ap (λ (z : Place). z.instances) same ∙ instances;
         })
 
-named-sound : (left : ℕ) → SoundBelow left → (p : Place) (x : Expr × Place) → named left (below left) p ≡ Some x → Spelled left 0 p x.0 x.1
+named-sound : (left : ℕ) → SoundBelow left → (p : Place) (x : Expr × Place) → named left (below left) p ≡ Read x → Spelled left 0 p x.0 x.1
 unfolding named
 named-sound left inside p x h =
     let (c, count-is, h) = bound (count_node p) _ x h in
@@ -317,7 +317,7 @@ named-sound left inside p x h =
       instances = takes.instances ∙ counts.instances;
     }) (front a.1) refl h
   where
-    plain : (a : List ℕ × Place) (line : ℕ) → Begun line a.0 p a.1 → Some (tree.Name a.0, a.1) ≡ Some x → Spelled left 0 p x.0 x.1
+    plain : (a : List ℕ × Place) (line : ℕ) → Begun line a.0 p a.1 → Read (tree.Name a.0, a.1) ≡ Read x → Spelled left 0 p x.0 x.1
     plain a line begun h = along (Spelled left 0 p) h (record {
       spelling = Expression.Name line a.0;
       lawful = begun.free;
@@ -330,7 +330,7 @@ named-sound left inside p x h =
       instances = begun.instances;
     })
 
-    go : (a : List ℕ × Place) (line : ℕ) → Begun line a.0 p a.1 → (nx : Next) → front a.1 ≡ nx → named_by left (below left) a.0 nx a.1 ≡ Some x → Spelled left 0 p x.0 x.1
+    go : (a : List ℕ × Place) (line : ℕ) → Begun line a.0 p a.1 → (nx : Next) → front a.1 ≡ nx → named_by left (below left) a.0 nx a.1 ≡ Read x → Spelled left 0 p x.0 x.1
     go a line begun (next.Sign sign.OpenParen) is h = called-sound left inside p a.1 line a.0 begun is x h
     go a line begun (next.Sign sign.OpenBracket) is h = indexed-sound left inside p a.1 line a.0 begun is x h
     go a line begun (next.Sign sign.Dot) is h = member-sound left p a.1 line a.0 begun is x h
@@ -341,11 +341,11 @@ pub operand-sound : (left : ℕ) → SoundBelow left → Sound left 0 (operand l
 unfolding operand
 operand-sound left inside p x h = go (front p) refl h
   where
-    by-prefix : (sg : Sign) (o : Option Un) → prefix_of sg ≡ o → front p ≡ next.Sign sg → prefixed_by left (below left) o p ≡ Some x → Spelled left 0 p x.0 x.1
+    by-prefix : (sg : Sign) (o : Option Un) → prefix_of sg ≡ o → front p ≡ next.Sign sg → prefixed_by left (below left) o p ≡ Read x → Spelled left 0 p x.0 x.1
     by-prefix sg (Some op) is first h = prefixed-sound left inside p sg op first is x h
     by-prefix sg None is first h = absurd (cc)
 
-    go : (nx : Next) → front p ≡ nx → operand_by left (below left) nx p ≡ Some x → Spelled left 0 p x.0 x.1
+    go : (nx : Next) → front p ≡ nx → operand_by left (below left) nx p ≡ Read x → Spelled left 0 p x.0 x.1
     go next.Number is h = literal-sound left p x h
     go next.Name is h = named-sound left inside p x h
     go (next.Sign sign.OpenParen) is h = bracketed-sound left inside p is x h

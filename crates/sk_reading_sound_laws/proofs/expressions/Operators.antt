@@ -3,6 +3,7 @@ use Rattle.std.proofs.Common.{◌≡◌, ℕ, zero, suc, ◌+◌, Bool, true, fa
 use Rattle.sk_grammar.specs.ExpressionSpelling.{Expression, in_front, tree_in, joined, sign_at}
 use Rattle.sk_grammar.specs.Signs.{infix_of, infix_level}
 use Rattle.sk_grammar.specs.declared.infix.Infix.{Infix}
+use Rattle.sk_refusals.specs.declared.refusal.Refusal.TheVariants.{Syntax}
 use Rattle.sk_tokens.specs.declared.token.Sign.{Sign}
 use Rattle.sk_tokens.specs.declared.token.Sign.TheVariants as sign
 use Rattle.sk_tree.specs.declared.tree.Expr.{Expr}
@@ -10,9 +11,9 @@ use Rattle.sk_tree.specs.declared.tree.Expr.TheVariants as tree
 use Rattle.sk_reading.specs.declared.next.Next.{Next}
 use Rattle.sk_reading.specs.declared.next.Next.TheVariants as next
 use Rattle.sk_reading.specs.declared.reach.Reach.TheVariants.{Whole}
-use Rattle.sk_reading.specs.Reading.{Place, Parser, and_then, front, advance, sees, expect, count_node, opened}
-use Rattle.sk_reading.specs.ReadingExpressions.{more, at_reach, infix_at, operators, chosen, choice_from, choice, below}
-use Rattle.sk_reading_sound_laws.proofs.Steps.{lines_of, bound, along, some-is, sign-takes, sees-sign, expect-takes, count-counts}
+use Rattle.sk_reading.specs.Reading.{Place, Read, Parser, and_then, refuse, front, advance, sees, expect, count_node, opened}
+use Rattle.sk_reading.specs.ReadingExpressions.{begins_expression, opened_by_expression, more, at_reach, infix_at, operators, chosen, choice_from, choice, below}
+use Rattle.sk_reading_sound_laws.proofs.Steps.{lines_of, bound, along, some-is, sign-takes, sees-sign, expect-takes, count-counts, opens}
 use Rattle.sk_reading_sound_laws.proofs.expressions.Operands.{Spelled, Sound, SoundBelow, operand-sound}
 
 -- ---- operators
@@ -36,17 +37,17 @@ infix_at-is reach next.Text j h = absurd (cc)
 infix_at-is reach next.End j h = absurd (cc)
 
 more-sound : (left reach : ℕ) (part : Parser Expr) → Sound left reach part → (turns : ℕ) (first : Expr) (p q : Place) → Spelled left (suc reach) p first q
-    → (x : Expr × Place) → more left (below left) part reach turns first q ≡ Some x → Spelled left (suc reach) p x.0 x.1
+    → (x : Expr × Place) → more left (below left) part reach turns first q ≡ Read x → Spelled left (suc reach) p x.0 x.1
 unfolding more advance
 more-sound left reach part sound zero first p q s x h = along (Spelled left (suc reach) p) h s
 more-sound left reach part sound (suc turns) first p q s x h = go (infix_at reach (front q)) refl h (λ e r t. more-sound left reach part sound turns e p r t x)
   where
     go : (o : Option Infix) → infix_at reach (front q) ≡ o
         → elim o [
-          | None ↦ Some (first, q)
+          | None ↦ Read (first, q)
           | Some j ↦ and_then (count_node q) (λ _ r. and_then (part (advance r)) (λ second r. more left (below left) part reach turns (joined j first second) r))
-        ] ≡ Some x
-        → ((e : Expr) (r : Place) → Spelled left (suc reach) p e r → more left (below left) part reach turns e r ≡ Some x → Spelled left (suc reach) p x.0 x.1)
+        ] ≡ Read x
+        → ((e : Expr) (r : Place) → Spelled left (suc reach) p e r → more left (below left) part reach turns e r ≡ Read x → Spelled left (suc reach) p x.0 x.1)
         → Spelled left (suc reach) p x.0 x.1
     go None is h later = along (Spelled left (suc reach) p) h s
     go (Some j) is h later =
@@ -89,25 +90,38 @@ operators-sound left inside (suc reach) p x h =
 
 -- ---- choices
 
+-- one more is opened, and nothing is taken
+opens-expression : (left : ℕ) (p : Place) (x : Unit {0} × Place) → opened_by_expression left p ≡ Read x → (inside : ℕ) × (left ≡ suc inside) × (x.1 ≡ p)
+unfolding opened_by_expression
+opens-expression left p x h = go (begins_expression (front p)) h
+  where
+    go : (b : Bool) → cond b (opened left p) (refuse Syntax p) ≡ Read x → (inside : ℕ) × (left ≡ suc inside) × (x.1 ≡ p)
+    go true h = opens left p x h
+    go false h = absurd (cc)
+
 -- from a value on, some whole expression is read, with what waits behind it
 choice_from-sound : (left : ℕ) → SoundBelow left → (turns : ℕ) (tests : List Expr) (value : Expr) (p q : Place) → Spelled left 10 p value q
-    → (x : Expr × Place) → choice_from left (below left) turns tests value q ≡ Some x
-    → (y : Expr × Place) × Spelled left 11 p y.0 y.1 × (chosen left (below left) tests y.0 y.1 ≡ Some x)
-unfolding choice_from chosen opened advance
+    → (x : Expr × Place) → choice_from left (below left) turns tests value q ≡ Read x
+    → (y : Expr × Place) × Spelled left 11 p y.0 y.1 × (chosen left (below left) tests y.0 y.1 ≡ Read x)
+unfolding choice_from chosen advance
 choice_from-sound left inside zero tests value p q s x h = absurd (cc)
 choice_from-sound left inside (suc turns) tests value p q s x h =
     go (sees sign.Question q) refl h (λ e r w t k. choice_from-sound left inside turns (value ∷ tests) e r w t x k)
   where
     after-test : (left : ℕ) → SoundBelow left → (r : Place) (line : ℕ) (y : Expr × Place) → Spelled left 10 p value q → q.rest ≡ sign_at sign.Question line ∷ r.rest
-        → r.nodes ≡ q.nodes + 1 → r.instances ≡ q.instances → Spelled left 11 r y.0 y.1 → chosen left (below left) (value ∷ tests) y.0 y.1 ≡ Some x
-        → (z : Expr × Place) × Spelled left 11 p z.0 z.1 × (chosen left (below left) tests z.0 z.1 ≡ Some x)
+        → r.nodes ≡ q.nodes + 1 → r.instances ≡ q.instances → Spelled left 11 r y.0 y.1 → chosen left (below left) (value ∷ tests) y.0 y.1 ≡ Read x
+        → (z : Expr × Place) × Spelled left 11 p z.0 z.1 × (chosen left (below left) tests z.0 z.1 ≡ Read x)
     after-test zero inside r line y s rest nodes instances one h =
-        let (u, colon-is, h) = bound (expect sign.Colon y.1) _ x h in absurd (cc)
+        let (u, colon-is, h) = bound (expect sign.Colon y.1) _ x h in
+        let (o, open-is, h) = bound (opened_by_expression zero u.1) _ x h in
+        let (below, is, same) = opens-expression zero u.1 o open-is in absurd (cc)
     after-test (suc left) inside r line y s rest nodes instances one h =
         let (u, colon-is, h) = bound (expect sign.Colon y.1) _ x h in
         let (line', colon) = expect-takes y.1 sign.Colon u colon-is in
-        let (b, other-is, h) = bound (below (suc left) Whole u.1) _ x h in
-        let other = inside.0 u.1 b other-is in (
+        let (o, open-is, h) = bound (opened_by_expression (suc left) u.1) _ x h in
+        let (deeper, is, same) = opens-expression (suc left) u.1 o open-is in
+        let (b, other-is, h) = bound (below (suc left) Whole o.1) _ x h in
+        let other = inside.0 o.1 b other-is in (
           (tree.Choose value y.0 b.0, b.1),
           record {
             spelling = Expression.Choose (lines_of (line ∷ line' ∷ [])) s.spelling one.spelling other.spelling;
@@ -115,22 +129,22 @@ choice_from-sound left inside (suc turns) tests value p q s x h =
             level = omega arith;
             shallow = (s.shallow, one.shallow, other.shallow);
             tokens = s.tokens ∙ ap (in_front s.spelling) (rest ∙ ap (λ l. sign_at sign.Question line ∷ l) (one.tokens
-                ∙ ap (in_front one.spelling) (colon.tokens ∙ ap (λ l. sign_at sign.Colon line' ∷ l) other.tokens)));
+                ∙ ap (in_front one.spelling) (colon.tokens ∙ ap (λ l. sign_at sign.Colon line' ∷ l) (sym (ap (λ (z : Place). z.rest) same) ∙ other.tokens))));
             is_tree = ap (λ e. tree.Choose e (tree_in one.spelling) (tree_in other.spelling)) s.is_tree
                 ∙ ap (λ e. tree.Choose value e (tree_in other.spelling)) one.is_tree ∙ ap (tree.Choose value y.0) other.is_tree;
-            nodes = omega (arith, other.nodes, colon.nodes, one.nodes, nodes, s.nodes);
+            nodes = omega (arith, other.nodes, ap (λ (z : Place). z.nodes) same, colon.nodes, one.nodes, nodes, s.nodes);
             few = other.few;
-            instances = other.instances ∙ colon.instances ∙ one.instances ∙ instances ∙ s.instances;
+            instances = other.instances ∙ ap (λ (z : Place). z.instances) same ∙ colon.instances ∙ one.instances ∙ instances ∙ s.instances;
           },
           h,
         )
 
     go : (b : Bool) → sees sign.Question q ≡ b
         → cond b (and_then (count_node q) (λ _ r. and_then (operators left (below left) 10 (advance r)) (λ second r. choice_from left (below left) turns (value ∷ tests) second r)))
-        (chosen left (below left) tests value q) ≡ Some x
-        → ((e : Expr) (r : Place) (w : Place) → Spelled left 10 r e w → choice_from left (below left) turns (value ∷ tests) e w ≡ Some x
-        → (y : Expr × Place) × Spelled left 11 r y.0 y.1 × (chosen left (below left) (value ∷ tests) y.0 y.1 ≡ Some x))
-        → (y : Expr × Place) × Spelled left 11 p y.0 y.1 × (chosen left (below left) tests y.0 y.1 ≡ Some x)
+        (chosen left (below left) tests value q) ≡ Read x
+        → ((e : Expr) (r : Place) (w : Place) → Spelled left 10 r e w → choice_from left (below left) turns (value ∷ tests) e w ≡ Read x
+        → (y : Expr × Place) × Spelled left 11 r y.0 y.1 × (chosen left (below left) (value ∷ tests) y.0 y.1 ≡ Read x))
+        → (y : Expr × Place) × Spelled left 11 p y.0 y.1 × (chosen left (below left) tests y.0 y.1 ≡ Read x)
     go false is h later = (
       (value, q),
       record {

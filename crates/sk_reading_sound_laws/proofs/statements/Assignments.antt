@@ -21,7 +21,7 @@ use Rattle.sk_reading.specs.declared.update.Update.{Update}
 use Rattle.sk_reading.specs.declared.update.Update.TheVariants.{Value, Joined, Step}
 use Rattle.sk_reading.specs.declared.target.Target.{Target}
 use Rattle.sk_reading.specs.declared.target.Target.TheVariants.{Variable, Element, Bracketed}
-use Rattle.sk_reading.specs.Reading.{Place, front, advance, after, expect, name, ty, opened}
+use Rattle.sk_reading.specs.Reading.{Place, Read, front, advance, after, expect, name, ty, opened}
 use Rattle.sk_reading.specs.ReadingExpressions.{below, arguments, arguments_from, expression}
 use Rattle.sk_reading.specs.ReadingAssignments as reading
 use Rattle.sk_reading_sound_laws.proofs.Commas.{loop-sound}
@@ -52,15 +52,15 @@ fresh-value left reach least p x sum s = record {
   instances = s.instances;
 }
 
-pub value-sound : (left : ℕ) (p : Place) (x : Expr × Place) → reading.value left Whole p ≡ Some x → IsValue left 0 p x.0 x.1
+pub value-sound : (left : ℕ) (p : Place) (x : Expr × Place) → reading.value left Whole p ≡ Read x → IsValue left 0 p x.0 x.1
 unfolding reading.value expression
 value-sound left p x h = fresh-value left 11 0 p x refl (choice-sound left (below-sound left) (record p { nodes = 0 }) x h)
 
-pub sum-sound : (left : ℕ) (p : Place) (x : Expr × Place) → reading.value left Sum p ≡ Some x → IsValue left 9 p x.0 x.1
+pub sum-sound : (left : ℕ) (p : Place) (x : Expr × Place) → reading.value left Sum p ≡ Read x → IsValue left 9 p x.0 x.1
 unfolding reading.value expression
 sum-sound left p x h = fresh-value left 2 9 p x refl (operators-sound left (below-sound left) 2 (record p { nodes = 0 }) x h)
 
-pub inside-sound : (left : ℕ) (p : Place) (x : Expr × Place) → reading.value_inside (suc left) p ≡ Some x → IsValue left 0 p x.0 x.1
+pub inside-sound : (left : ℕ) (p : Place) (x : Expr × Place) → reading.value_inside (suc left) p ≡ Read x → IsValue left 0 p x.0 x.1
 unfolding reading.value_inside
 inside-sound left p x h = fresh-value left 11 0 p x refl ((below-sound (suc left)).0 (record p { nodes = 0 }) x h)
 
@@ -73,17 +73,17 @@ pub record AreValues (left : ℕ) (p : Place) (es : List Expr) (q : Place) : Typ
   pub instances : q.instances ≡ p.instances
 
 owns-sound : (left turns : ℕ) (found : List Expr) (p : Place) (x : List Expr × Place)
-    → arguments_from (λ q. below (suc left) Whole (record q { nodes = 0 })) turns found p ≡ Some x
+    → arguments_from (λ q. below (suc left) Whole (record q { nodes = 0 })) turns found p ≡ Read x
     → (es : List Expr) × (x.0 ≡ found ++ es) × AreValues left p es x.1
 unfolding arguments_from after
 owns-sound left =
     loop-sound (λ q. below (suc left) Whole (record q { nodes = 0 })) (λ e. e) (arguments_from (λ q. below (suc left) Whole (record q { nodes = 0 })))
     (AreValues left) (λ found p. refl, λ turns found p. refl) last before
   where
-    own : (p : Place) (a : Expr × Place) → below (suc left) Whole (record p { nodes = 0 }) ≡ Some a → IsValue left 0 p a.0 a.1
+    own : (p : Place) (a : Expr × Place) → below (suc left) Whole (record p { nodes = 0 }) ≡ Read a → IsValue left 0 p a.0 a.1
     own p a is = fresh-value left 11 0 p a refl ((below-sound (suc left)).0 (record p { nodes = 0 }) a is)
 
-    last : (p : Place) (a : Expr × Place) → below (suc left) Whole (record p { nodes = 0 }) ≡ Some a → AreValues left p (a.0 ∷ []) a.1
+    last : (p : Place) (a : Expr × Place) → below (suc left) Whole (record p { nodes = 0 }) ≡ Read a → AreValues left p (a.0 ∷ []) a.1
     last p a is =
         let s = own p a is in
         record {
@@ -95,7 +95,7 @@ owns-sound left =
           instances = s.instances;
         }
 
-    before : (p : Place) (a : Expr × Place) → below (suc left) Whole (record p { nodes = 0 }) ≡ Some a → (line : ℕ) → Takes (sign_at sign.Comma line) a.1 (advance a.1)
+    before : (p : Place) (a : Expr × Place) → below (suc left) Whole (record p { nodes = 0 }) ≡ Read a → (line : ℕ) → Takes (sign_at sign.Comma line) a.1 (advance a.1)
         → (es : List Expr) (q : Place) → AreValues left (advance a.1) es q → AreValues left p (a.0 ∷ es) q
     before p a is line comma es q others =
         let s = own p a is in
@@ -108,7 +108,7 @@ owns-sound left =
           instances = others.instances ∙ comma.instances ∙ s.instances;
         }
 
-pub places-sound : (left : ℕ) (p : Place) (x : List Expr × Place) → reading.places (suc left) p ≡ Some x → AreValues left p x.0 x.1
+pub places-sound : (left : ℕ) (p : Place) (x : List Expr × Place) → reading.places (suc left) p ≡ Read x → AreValues left p x.0 x.1
 unfolding reading.places arguments
 places-sound left p x h =
     let (es, all, s) = owns-sound left (length p.rest) [] p x h in
@@ -125,7 +125,7 @@ pub record IsTarget (left : ℕ) (p : Place) (t : Target) (q : Place) : Type 0 w
   pub instances : q.instances ≡ p.instances
 
 element-sound : (left : ℕ) (p q : Place) (line : ℕ) (w : List ℕ) → IsTrue (is_name w) → Takes (word w line) p q → front q ≡ next.Sign sign.OpenParen
-    → (x : Target × Place) → reading.element left w q ≡ Some x → IsTarget left p x.0 x.1
+    → (x : Target × Place) → reading.element left w q ≡ Read x → IsTarget left p x.0 x.1
 unfolding reading.element opened advance
 element-sound zero p q line w free takes first x h = absurd (cc)
 element-sound (suc left) p q line w free takes first x h =
@@ -144,7 +144,7 @@ element-sound (suc left) p q line w free takes first x h =
     })
 
 bracketed-sound : (left : ℕ) (p q : Place) (line : ℕ) (w : List ℕ) → IsTrue (is_name w) → Takes (word w line) p q → front q ≡ next.Sign sign.OpenBracket
-    → (x : Target × Place) → reading.bracketed left w q ≡ Some x → IsTarget left p x.0 x.1
+    → (x : Target × Place) → reading.bracketed left w q ≡ Read x → IsTarget left p x.0 x.1
 unfolding reading.bracketed opened advance
 bracketed-sound zero p q line w free takes first x h = absurd (cc)
 bracketed-sound (suc left) p q line w free takes first x h =
@@ -162,14 +162,14 @@ bracketed-sound (suc left) p q line w free takes first x h =
       instances = closing.instances ∙ s.instances ∙ takes.instances;
     })
 
-pub target-sound : (left : ℕ) (p : Place) (x : Target × Place) → reading.target left p ≡ Some x → IsTarget left p x.0 x.1
+pub target-sound : (left : ℕ) (p : Place) (x : Target × Place) → reading.target left p ≡ Read x → IsTarget left p x.0 x.1
 unfolding reading.target
 target-sound left p x h =
     let (a, name-is, h) = bound (name p) _ x h in
     let (line, free, takes) = name-takes p a name-is in
     go a line free takes (front a.1) refl h
   where
-    plain : (a : List ℕ × Place) (line : ℕ) → IsTrue (is_name a.0) → Takes (word a.0 line) p a.1 → Some (Variable a.0, a.1) ≡ Some x → IsTarget left p x.0 x.1
+    plain : (a : List ℕ × Place) (line : ℕ) → IsTrue (is_name a.0) → Takes (word a.0 line) p a.1 → Read (Variable a.0, a.1) ≡ Read x → IsTarget left p x.0 x.1
     plain a line free takes h = along (IsTarget left p) h (record {
       spelling = form.Target.Variable line a.0;
       lawful = free;
@@ -179,7 +179,7 @@ target-sound left p x h =
       instances = takes.instances;
     })
 
-    go : (a : List ℕ × Place) (line : ℕ) → IsTrue (is_name a.0) → Takes (word a.0 line) p a.1 → (nx : Next) → front a.1 ≡ nx → reading.target_by left a.0 nx a.1 ≡ Some x → IsTarget left p x.0 x.1
+    go : (a : List ℕ × Place) (line : ℕ) → IsTrue (is_name a.0) → Takes (word a.0 line) p a.1 → (nx : Next) → front a.1 ≡ nx → reading.target_by left a.0 nx a.1 ≡ Read x → IsTarget left p x.0 x.1
     go a line free takes (next.Sign sign.OpenParen) is h = element-sound left p a.1 line a.0 free takes is x h
     go a line free takes (next.Sign sign.OpenBracket) is h = bracketed-sound left p a.1 line a.0 free takes is x h
     go a line free takes (next.Sign s) is h = plain a line free takes h
@@ -222,7 +222,7 @@ update-front next.Text u h = absurd (cc)
 update-front next.End u h = absurd (cc)
 
 assigns-sound : (left : ℕ) (p q : Place) (t : Target) → IsTarget left p t q → (sg : Sign) → front q ≡ next.Sign sg → (how : Assigns) → assigns_of sg ≡ Some how
-    → (x : What × Place) → (a : Expr × Place) → reading.value left Whole (advance q) ≡ Some a → Some (reading.assigned t (form.new_value how (reading.old_value t) a.0), a.1) ≡ Some x
+    → (x : What × Place) → (a : Expr × Place) → reading.value left Whole (advance q) ≡ Read a → Read (reading.assigned t (form.new_value how (reading.old_value t) a.0), a.1) ≡ Read x
     → IsAssignment left p x.0 x.1
 unfolding advance
 assigns-sound left p q t s sg first how is x a value-is h =
@@ -241,7 +241,7 @@ assigns-sound left p q t s sg first how is x a value-is h =
     })
 
 steps-sound : (left : ℕ) (p q : Place) (t : Target) → IsTarget left p t q → (sg : Sign) → front q ≡ next.Sign sg → (operator : Op) → step_of sg ≡ Some operator
-    → (x : What × Place) → Some (reading.stepped left t operator, advance q) ≡ Some x → IsAssignment left p x.0 x.1
+    → (x : What × Place) → Read (reading.stepped left t operator, advance q) ≡ Read x → IsAssignment left p x.0 x.1
 unfolding advance
 steps-sound left p q t s sg first operator is x h =
     let (line, takes) = sign-takes q sg first in
@@ -256,12 +256,12 @@ steps-sound left p q t s sg first operator is x h =
       instances = s.instances;
     })
 
-pub update-sound : (left : ℕ) (p q : Place) (t : Target) → IsTarget left p t q → (x : What × Place) → reading.update left t q ≡ Some x → IsAssignment left p x.0 x.1
+pub update-sound : (left : ℕ) (p q : Place) (t : Target) → IsTarget left p t q → (x : What × Place) → reading.update left t q ≡ Read x → IsAssignment left p x.0 x.1
 unfolding reading.update reading.joined_value
 update-sound left p q t s x h = go (reading.update_next (front q)) refl h
   where
     by-how : (sg : Sign) → front q ≡ next.Sign sg → (how : Assigns) → assigns_of sg ≡ Some how → (u : Update) → u ≡ elim how [ Plainly ↦ Value | Joining operator ↦ Joined operator ]
-        → reading.update_by left t (Some u) q ≡ Some x → IsAssignment left p x.0 x.1
+        → reading.update_by left t (Some u) q ≡ Read x → IsAssignment left p x.0 x.1
     by-how sg first Plainly is u same h =
         let h' = ap (λ v. reading.update_by left t (Some v) q) (sym same) ∙ h in
         let (a, value-is, h') = bound (reading.value left Whole (advance q)) _ x h' in
@@ -271,7 +271,7 @@ update-sound left p q t s x h = go (reading.update_next (front q)) refl h
         let (a, value-is, h') = bound (reading.value left Whole (advance q)) _ x h' in
         assigns-sound left p q t s sg first (Joining operator) is x a value-is h'
 
-    go : (o : Option Update) → reading.update_next (front q) ≡ o → reading.update_by left t o q ≡ Some x → IsAssignment left p x.0 x.1
+    go : (o : Option Update) → reading.update_next (front q) ≡ o → reading.update_by left t o q ≡ Read x → IsAssignment left p x.0 x.1
     go None is h = absurd (cc)
     go (Some u) is h =
         let (sg, first, update-is) = update-front (front q) u is in
@@ -280,11 +280,11 @@ update-sound left p q t s x h = go (reading.update_next (front q)) refl h
           | inr steps ↦ steps-sound left p q t s sg first steps.0 steps.1 x (ap (λ v. reading.update_by left t (Some v) q) (sym steps.2) ∙ h)
         ]
 
-pub assignment-sound : (left : ℕ) (p : Place) (x : What × Place) → reading.assignment left p ≡ Some x → IsAssignment left p x.0 x.1
+pub assignment-sound : (left : ℕ) (p : Place) (x : What × Place) → reading.assignment left p ≡ Read x → IsAssignment left p x.0 x.1
 unfolding reading.assignment advance
 assignment-sound left p x h = go (front p) refl h
   where
-    by-step : (sg : Sign) → front p ≡ next.Sign sg → (o : Option Op) → step_of sg ≡ o → reading.step_by left o p ≡ Some x → IsAssignment left p x.0 x.1
+    by-step : (sg : Sign) → front p ≡ next.Sign sg → (o : Option Op) → step_of sg ≡ o → reading.step_by left o p ≡ Read x → IsAssignment left p x.0 x.1
     by-step sg first None is h = absurd (cc)
     by-step sg first (Some operator) is h =
         let (line, takes) = sign-takes p sg first in
@@ -301,7 +301,7 @@ assignment-sound left p x h = go (front p) refl h
           instances = s.instances;
         })
 
-    go : (nx : Next) → front p ≡ nx → reading.assignment_by left nx p ≡ Some x → IsAssignment left p x.0 x.1
+    go : (nx : Next) → front p ≡ nx → reading.assignment_by left nx p ≡ Read x → IsAssignment left p x.0 x.1
     go next.Name is h =
         let (a, target-is, h) = bound (reading.target left p) _ x h in
         update-sound left p a.1 a.0 (target-sound left p a target-is) x h
@@ -319,7 +319,7 @@ pub record IsSimple (left : ℕ) (p : Place) (does : What) (q : Place) : Type 0 
   pub is_tree : form.simple_tree spelling ≡ does
   pub instances : q.instances ≡ p.instances
 
-pub declaration-sound : (left : ℕ) (p : Place) (x : What × Place) → reading.declaration left p ≡ Some x → IsSimple left p x.0 x.1
+pub declaration-sound : (left : ℕ) (p : Place) (x : What × Place) → reading.declaration left p ≡ Read x → IsSimple left p x.0 x.1
 unfolding reading.declaration
 declaration-sound left p x h =
     let (t, ty-is, h) = bound (ty p) _ x h in
@@ -349,11 +349,11 @@ assigning left p x s = record {
   instances = s.instances;
 }
 
-pub simple-sound : (left : ℕ) (p : Place) (x : What × Place) → reading.simple left p ≡ Some x → IsSimple left p x.0 x.1
+pub simple-sound : (left : ℕ) (p : Place) (x : What × Place) → reading.simple left p ≡ Read x → IsSimple left p x.0 x.1
 unfolding reading.simple
 simple-sound left p x h = go (front p) h
   where
-    go : (nx : Next) → reading.simple_by left nx p ≡ Some x → IsSimple left p x.0 x.1
+    go : (nx : Next) → reading.simple_by left nx p ≡ Read x → IsSimple left p x.0 x.1
     go (next.Keyword key.Int) h = declaration-sound left p x h
     go (next.Keyword key.Long) h = declaration-sound left p x h
     go (next.Keyword other) h = assigning left p x (assignment-sound left p x h)

@@ -1,5 +1,5 @@
 -- What is read as statements has a lawful spelling that keeps the limits.
-use Rattle.std.proofs.Common.{◌≡◌, ℕ, zero, suc, ◌+◌, ◌≤◌, Bool, true, false, cond, List, [], ◌∷◌, ◌++◌, length, Some, codes, refl, ap, sym, subst, ◌∙◌, arith, append_assoc, append-nil}
+use Rattle.std.proofs.Common.{◌≡◌, ℕ, zero, suc, ◌+◌, ◌≤◌, Bool, true, false, cond, List, [], ◌∷◌, ◌++◌, length, codes, refl, ap, sym, subst, ◌∙◌, arith, append_assoc, append-nil}
 use Rattle.sk_grammar.specs.ExpressionSpelling.{in_front, tree_in, sign_at, word}
 use Rattle.sk_grammar.specs.Limits.{BranchFits, OtherwiseFits, BlockFits, StatementsFit, branch_instances, otherwise_instances, block_instances, instances_in}
 use Rattle.sk_grammar.specs.StatementSpelling as form
@@ -14,10 +14,10 @@ use Rattle.sk_reading.specs.declared.reach.Reach.TheVariants.{Whole}
 use Rattle.sk_reading.specs.declared.keyword.Keyword.TheVariants as key
 use Rattle.sk_reading.specs.declared.head.Head.{Head}
 use Rattle.sk_reading.specs.declared.part.Part.TheVariants as part
-use Rattle.sk_reading.specs.Reading.{Place, and_then, front, advance, sees, sees_keyword, expect, opened, line_of, front_line}
+use Rattle.sk_reading.specs.Reading.{Place, Read, and_then, front, advance, sees, sees_keyword, expect, opened, opened_by, line_of, front_line}
 use Rattle.sk_reading.specs.ReadingAssignments as assignments
 use Rattle.sk_reading.specs.ReadingStatements as reading
-use Rattle.sk_reading_sound_laws.proofs.Steps.{lines_of, bound, along, some-is, expect-takes, keyword-takes, sees-keyword, opens}
+use Rattle.sk_reading_sound_laws.proofs.Steps.{lines_of, bound, along, read-is, expect-takes, keyword-takes, sees-keyword, opens, opened_by-takes}
 use Rattle.sk_reading_sound_laws.proofs.statements.Short.{IsWritten, short-sound}
 use Rattle.sk_reading_sound_laws.proofs.statements.Assignments.{value-sound, inside-sound, assignment-sound, simple-sound}
 
@@ -69,15 +69,17 @@ pub record IsAlone (left : ℕ) (p : Place) (made : List Statement) (q : Place) 
 abbrev pub PartsBelow : ℕ → Type 0
 PartsBelow zero = Unit {0}
 PartsBelow (suc left) =
-    ((p : Place) (x : List Statement × Place) → reading.part_below (suc left) part.Statements p ≡ Some x → AreStatements left p x.0 x.1)
-    × ((p : Place) → front p ≡ next.Keyword key.If → (x : List Statement × Place) → reading.part_below (suc left) part.Branch p ≡ Some x → IsAlone left p x.0 x.1)
+    ((p : Place) (x : List Statement × Place) → reading.part_below (suc left) part.Statements p ≡ Read x → AreStatements left p x.0 x.1)
+    × ((p : Place) → front p ≡ next.Keyword key.If → (x : List Statement × Place) → reading.part_below (suc left) part.Branch p ≡ Read x → IsAlone left p x.0 x.1)
 
-pub block-sound : (left : ℕ) → PartsBelow left → (p : Place) (x : List Statement × Place) → reading.block left (reading.part_below left) p ≡ Some x → IsBlock left p x.0 x.1
-unfolding reading.block opened
-block-sound zero inside p x h = absurd (cc)
+pub block-sound : (left : ℕ) → PartsBelow left → (p : Place) (x : List Statement × Place) → reading.block left (reading.part_below left) p ≡ Read x → IsBlock left p x.0 x.1
+unfolding reading.block
+block-sound zero inside p x h =
+    let (u, open-is, h) = bound (opened_by sign.OpenBrace zero p) _ x h in
+    let (deeper, is, l, opening) = opened_by-takes sign.OpenBrace zero p u open-is in absurd (cc)
 block-sound (suc left) inside p x h =
-    let (u, open-is, h) = bound (expect sign.OpenBrace p) _ x h in
-    let (l, opening) = expect-takes p sign.OpenBrace u open-is in
+    let (u, open-is, h) = bound (opened_by sign.OpenBrace (suc left) p) _ x h in
+    let (deeper, is, l, opening) = opened_by-takes sign.OpenBrace (suc left) p u open-is in
     let (a, inner-is, h) = bound (reading.part_below (suc left) part.Statements u.1) _ x h in
     let s = inside.0 u.1 a inner-is in
     let (v, close-is, h) = bound (expect sign.CloseBrace a.1) _ x h in
@@ -93,11 +95,11 @@ block-sound (suc left) inside p x h =
     })
 
 else-sound : (left : ℕ) → PartsBelow left → (p : Place) → front p ≡ next.Keyword key.Else → (x : List Statement × Place)
-    → reading.other_branch left (reading.part_below left) p ≡ Some x → IsOtherwise left p x.0 x.1
+    → reading.other_branch left (reading.part_below left) p ≡ Read x → IsOtherwise left p x.0 x.1
 unfolding reading.other_branch advance
 else-sound left inside p first x h = go (sees_keyword key.If (advance p)) refl h
   where
-    by-if : (left : ℕ) → PartsBelow left → front (advance p) ≡ next.Keyword key.If → and_then (opened left (advance p)) (λ _ q. reading.part_below left part.Branch q) ≡ Some x → IsOtherwise left p x.0 x.1
+    by-if : (left : ℕ) → PartsBelow left → front (advance p) ≡ next.Keyword key.If → and_then (opened left (advance p)) (λ _ q. reading.part_below left part.Branch q) ≡ Read x → IsOtherwise left p x.0 x.1
     by-if zero inside second h = let (o, open-is, h) = bound (opened zero (advance p)) _ x h in let (below, is, same) = opens zero (advance p) o open-is in absurd (cc)
     by-if (suc left) inside second h =
         let (l, other) = keyword-takes p key.Else first in
@@ -117,7 +119,7 @@ else-sound left inside p first x h = go (sees_keyword key.If (advance p)) refl h
         }
 
     go : (c : Bool) → sees_keyword key.If (advance p) ≡ c
-        → cond c (and_then (opened left (advance p)) (λ _ q. reading.part_below left part.Branch q)) (reading.block left (reading.part_below left) (advance p)) ≡ Some x → IsOtherwise left p x.0 x.1
+        → cond c (and_then (opened left (advance p)) (λ _ q. reading.part_below left part.Branch q)) (reading.block left (reading.part_below left) (advance p)) ≡ Read x → IsOtherwise left p x.0 x.1
     go true is h = by-if left inside (sees-keyword (advance p) key.If is) h
     go false is h =
         let (l, other) = keyword-takes p key.Else first in
@@ -132,11 +134,11 @@ else-sound left inside p first x h = go (sees_keyword key.If (advance p)) refl h
           few = b.few;
         }
 
-otherwise-sound : (left : ℕ) → PartsBelow left → (p : Place) (x : List Statement × Place) → reading.otherwise left (reading.part_below left) p ≡ Some x → IsOtherwise left p x.0 x.1
+otherwise-sound : (left : ℕ) → PartsBelow left → (p : Place) (x : List Statement × Place) → reading.otherwise left (reading.part_below left) p ≡ Read x → IsOtherwise left p x.0 x.1
 unfolding reading.otherwise
 otherwise-sound left inside p x h = go (sees_keyword key.Else p) refl h
   where
-    go : (c : Bool) → sees_keyword key.Else p ≡ c → cond c (reading.other_branch left (reading.part_below left) p) (Some ([], p)) ≡ Some x → IsOtherwise left p x.0 x.1
+    go : (c : Bool) → sees_keyword key.Else p ≡ c → cond c (reading.other_branch left (reading.part_below left) p) (Read ([], p)) ≡ Read x → IsOtherwise left p x.0 x.1
     go true is h = else-sound left inside p (sees-keyword p key.Else is) x h
     go false is h = along (IsOtherwise left p) h (record {
       spelling = Otherwise.Nothing;
@@ -148,13 +150,15 @@ otherwise-sound left inside p x h = go (sees_keyword key.Else p) refl h
       few = λ few. few;
     })
 
-branch-sound : (left : ℕ) → PartsBelow left → (p : Place) → front p ≡ next.Keyword key.If → (x : What × Place) → reading.branch left (reading.part_below left) p ≡ Some x → IsBranch left p x.0 x.1
-unfolding reading.branch opened advance
-branch-sound zero inside p first x h = absurd (cc)
+branch-sound : (left : ℕ) → PartsBelow left → (p : Place) → front p ≡ next.Keyword key.If → (x : What × Place) → reading.branch left (reading.part_below left) p ≡ Read x → IsBranch left p x.0 x.1
+unfolding reading.branch advance
+branch-sound zero inside p first x h =
+    let (u, open-is, h) = bound (opened_by sign.OpenParen zero (advance p)) _ x h in
+    let (deeper, is, l, opening) = opened_by-takes sign.OpenParen zero (advance p) u open-is in absurd (cc)
 branch-sound (suc left) inside p first x h =
     let (l, iff) = keyword-takes p key.If first in
-    let (u, open-is, h) = bound (expect sign.OpenParen (advance p)) _ x h in
-    let (l0, opening) = expect-takes (advance p) sign.OpenParen u open-is in
+    let (u, open-is, h) = bound (opened_by sign.OpenParen (suc left) (advance p)) _ x h in
+    let (deeper, is, l0, opening) = opened_by-takes sign.OpenParen (suc left) (advance p) u open-is in
     let (e, test-is, h) = bound (assignments.value_inside (suc left) u.1) _ x h in
     let v = inside-sound left u.1 e test-is in
     let (c, close-is, h) = bound (expect sign.CloseParen e.1) _ x h in
@@ -175,14 +179,16 @@ branch-sound (suc left) inside p first x h =
       few = λ few. t.few (s.few (omega (arith, closing.instances, v.instances, opening.instances, few)));
     })
 
-for-sound : (left : ℕ) → PartsBelow left → (p : Place) → front p ≡ next.Keyword key.For → (x : What × Place) → reading.turned left (reading.part_below left) (line_of p.rest) p ≡ Some x
+for-sound : (left : ℕ) → PartsBelow left → (p : Place) → front p ≡ next.Keyword key.For → (x : What × Place) → reading.turned left (reading.part_below left) (line_of p.rest) p ≡ Read x
     → IsWritten left p (at_line (line_of p.rest) x.0) x.1
-unfolding reading.turned reading.head opened advance
-for-sound zero inside p first x h = absurd (cc)
+unfolding reading.turned reading.head advance
+for-sound zero inside p first x h =
+    let (u, open-is, h) = bound (opened_by sign.OpenParen zero (advance p)) _ x h in
+    let (deeper, is, l, opening) = opened_by-takes sign.OpenParen zero (advance p) u open-is in absurd (cc)
 for-sound (suc left) inside p first x h =
     let (l, forr) = keyword-takes p key.For first in
-    let (u, open-is, h) = bound (expect sign.OpenParen (advance p)) _ x h in
-    let (l1, opening) = expect-takes (advance p) sign.OpenParen u open-is in
+    let (u, open-is, h) = bound (opened_by sign.OpenParen (suc left) (advance p)) _ x h in
+    let (deeper, is, l1, opening) = opened_by-takes sign.OpenParen (suc left) (advance p) u open-is in
     let (d, head-is, h) = bound (reading.head left (line_of p.rest) u.1) _ x h in
     let (a, first-is, k) = bound (assignments.simple left u.1) _ d head-is in
     let one = simple-sound left u.1 a first-is in
@@ -194,7 +200,7 @@ for-sound (suc left) inside p first x h =
     let (l3, semi') = expect-takes e.1 sign.Semi m' semi'-is in
     let (s, step-is, k) = bound (assignments.assignment left m'.1) _ d k in
     let step = assignment-sound left m'.1 s step-is in
-    let same = some-is k in
+    let same = read-is k in
     let (c, close-is, h) = bound (expect sign.CloseParen d.1) _ x h in
     let (l4, closing) = expect-takes d.1 sign.CloseParen c close-is in
     let (b, block-is, h) = bound (reading.block (suc left) (reading.part_below (suc left)) c.1) _ x h in
@@ -219,7 +225,7 @@ for-sound (suc left) inside p first x h =
       few = λ few. body.few (omega (arith, closing.instances, ap (λ (z : Head × Place). z.1.instances) same, step.instances, semi'.instances, v.instances, semi.instances, one.instances, opening.instances, few));
     })
 
-statement-sound : (left : ℕ) → PartsBelow left → (p : Place) (x : Statement × Place) → reading.statement left (reading.part_below left) p ≡ Some x → IsWritten left p x.0 x.1
+statement-sound : (left : ℕ) → PartsBelow left → (p : Place) (x : Statement × Place) → reading.statement left (reading.part_below left) p ≡ Read x → IsWritten left p x.0 x.1
 unfolding reading.statement reading.doing front_line
 statement-sound left inside p x h =
     let (a, does-is, h) = bound (reading.statement_by left (reading.part_below left) (line_of p.rest) (front p) p) _ x h in
@@ -236,23 +242,23 @@ statement-sound left inside p x h =
       few = b.few;
     }
 
-    go : (a : What × Place) (nx : Next) → front p ≡ nx → reading.statement_by left (reading.part_below left) (line_of p.rest) nx p ≡ Some a → IsWritten left p (at_line (line_of p.rest) a.0) a.1
+    go : (a : What × Place) (nx : Next) → front p ≡ nx → reading.statement_by left (reading.part_below left) (line_of p.rest) nx p ≡ Read a → IsWritten left p (at_line (line_of p.rest) a.0) a.1
     go a (next.Keyword key.If) is h = by-if a (branch-sound left inside p is a h)
     go a (next.Keyword key.For) is h = for-sound left inside p is a h
     go a (next.Keyword k) is h = short-sound left p a h
     go a other is h = short-sound left p a h
 
-statements_from-sound : (left : ℕ) → PartsBelow left → (turns : ℕ) (found : List Statement) (p : Place) (x : List Statement × Place) → reading.statements_from left (reading.part_below left) turns found p ≡ Some x
+statements_from-sound : (left : ℕ) → PartsBelow left → (turns : ℕ) (found : List Statement) (p : Place) (x : List Statement × Place) → reading.statements_from left (reading.part_below left) turns found p ≡ Read x
     → (made : List Statement) × (x.0 ≡ found ++ made) × AreStatements left p made x.1
 unfolding reading.statements_from
 statements_from-sound left inside zero found p x h = absurd (cc)
 statements_from-sound left inside (suc turns) found p x h = go (sees sign.CloseBrace p) h (λ f q y. statements_from-sound left inside turns f q y)
   where
-    go : (c : Bool) → cond c (Some (found, p)) (and_then (reading.statement left (reading.part_below left) p) (λ s q. reading.statements_from left (reading.part_below left) turns (found ++ s ∷ []) q)) ≡ Some x
-        → ((f : List Statement) (q : Place) (y : List Statement × Place) → reading.statements_from left (reading.part_below left) turns f q ≡ Some y → (made : List Statement) × (y.0 ≡ f ++ made) × AreStatements left q made y.1)
+    go : (c : Bool) → cond c (Read (found, p)) (and_then (reading.statement left (reading.part_below left) p) (λ s q. reading.statements_from left (reading.part_below left) turns (found ++ s ∷ []) q)) ≡ Read x
+        → ((f : List Statement) (q : Place) (y : List Statement × Place) → reading.statements_from left (reading.part_below left) turns f q ≡ Read y → (made : List Statement) × (y.0 ≡ f ++ made) × AreStatements left q made y.1)
         → (made : List Statement) × (x.0 ≡ found ++ made) × AreStatements left p made x.1
     go true h later =
-        let same = some-is h in (
+        let same = read-is h in (
           [],
           sym (ap (λ y. y.0) same) ∙ sym (append-nil found),
           subst (AreStatements left p []) (ap (λ y. y.1) same) (record {
@@ -282,11 +288,11 @@ statements_from-sound left inside (suc turns) found p x h = go (sees sign.CloseB
           },
         )
 
-part-sound : (left : ℕ) → PartsBelow left → (p : Place) (x : List Statement × Place) → reading.part left (reading.part_below left) part.Statements p ≡ Some x → AreStatements left p x.0 x.1
+part-sound : (left : ℕ) → PartsBelow left → (p : Place) (x : List Statement × Place) → reading.part left (reading.part_below left) part.Statements p ≡ Read x → AreStatements left p x.0 x.1
 part-sound left inside p x h =
     let (made, all, s) = statements_from-sound left inside (length p.rest) [] p x h in subst (λ l. AreStatements left p l x.1) (sym all) s
 
-alone-sound : (left : ℕ) → PartsBelow left → (p : Place) → front p ≡ next.Keyword key.If → (x : List Statement × Place) → reading.part left (reading.part_below left) part.Branch p ≡ Some x → IsAlone left p x.0 x.1
+alone-sound : (left : ℕ) → PartsBelow left → (p : Place) → front p ≡ next.Keyword key.If → (x : List Statement × Place) → reading.part left (reading.part_below left) part.Branch p ≡ Read x → IsAlone left p x.0 x.1
 unfolding reading.alone front_line
 alone-sound left inside p first x h =
     let (a, branch-is, h) = bound (reading.branch left (reading.part_below left) p) _ x h in

@@ -1,5 +1,5 @@
 -- What is read as a print has a lawful spelling that keeps the limits.
-use Rattle.std.proofs.Common.{◌≡◌, ℕ, zero, suc, ◌<◌, Bool, true, false, cond, List, [], ◌∷◌, ◌++◌, length, map, Some, codes, refl, ap, sym, ◌∙◌, arith, append_assoc}
+use Rattle.std.proofs.Common.{◌≡◌, ℕ, zero, suc, ◌<◌, Bool, true, false, cond, List, [], ◌∷◌, ◌++◌, length, map, codes, refl, ap, sym, ◌∙◌, arith, append_assoc}
 use Rattle.sk_grammar.specs.ExpressionSpelling.{sign_at, word, in_sequence, each}
 use Rattle.sk_grammar.specs.Limits.{PrintedFits}
 use Rattle.sk_grammar.specs.StatementSpelling as form
@@ -13,10 +13,10 @@ use Rattle.sk_reading.specs.declared.next.Next.{Next}
 use Rattle.sk_reading.specs.declared.next.Next.TheVariants as next
 use Rattle.sk_reading.specs.declared.reach.Reach.TheVariants.{Sum}
 use Rattle.sk_reading.specs.declared.keyword.Keyword.TheVariants as key
-use Rattle.sk_reading.specs.Reading.{Place, and_then, front, advance, sees, expect, word_in, text, line_of}
+use Rattle.sk_reading.specs.Reading.{Place, Read, and_then, front, advance, sees, expect, word_in, text, line_of}
 use Rattle.sk_reading.specs.ReadingAssignments as assignments
 use Rattle.sk_reading.specs.ReadingForms as reading
-use Rattle.sk_reading_sound_laws.proofs.Steps.{lines_of, bound, along, some-is, Takes, expect-takes, word_in-takes, text-takes, keyword-takes}
+use Rattle.sk_reading_sound_laws.proofs.Steps.{lines_of, bound, along, read-is, Takes, expect-takes, word_in-takes, text-takes, keyword-takes}
 use Rattle.sk_reading.proofs.Entries.{word-of}
 use Rattle.sk_reading_sound_laws.proofs.statements.Assignments.{sum-sound}
 use Rattle.sk_reading_sound_laws.proofs.statements.Started.{Started}
@@ -29,14 +29,14 @@ record IsPrinted (left : ℕ) (p : Place) (shown : Item) (q : Place) : Type 0 wh
   is_tree : form.printed_tree written.1 ≡ shown
   instances : q.instances ≡ p.instances
 
-printed-sound : (left : ℕ) (p : Place) (x : Item × Place) → reading.printed left p ≡ Some x → IsPrinted left p x.0 x.1
+printed-sound : (left : ℕ) (p : Place) (x : Item × Place) → reading.printed left p ≡ Read x → IsPrinted left p x.0 x.1
 unfolding reading.printed reading.printed_end advance
 printed-sound left p x h =
     let (u, shl-is, h) = bound (expect sign.Shl p) _ x h in
     let (l, shl) = expect-takes p sign.Shl u shl-is in
     go u.1 l shl (front u.1) refl h
   where
-    shown : (q : Place) (l : ℕ) → Takes (sign_at sign.Shl l) p q → and_then (assignments.value left Sum q) (λ e r. Some (item.Value e, r)) ≡ Some x → IsPrinted left p x.0 x.1
+    shown : (q : Place) (l : ℕ) → Takes (sign_at sign.Shl l) p q → and_then (assignments.value left Sum q) (λ e r. Read (item.Value e, r)) ≡ Read x → IsPrinted left p x.0 x.1
     shown q l shl h =
         let (a, value-is, h) = bound (assignments.value left Sum q) _ x h in
         let v = sum-sound left q a value-is in
@@ -49,7 +49,7 @@ printed-sound left p x h =
           instances = v.instances ∙ shl.instances;
         })
 
-    go : (q : Place) (l : ℕ) → Takes (sign_at sign.Shl l) p q → (nx : Next) → front q ≡ nx → reading.printed_by left nx q ≡ Some x → IsPrinted left p x.0 x.1
+    go : (q : Place) (l : ℕ) → Takes (sign_at sign.Shl l) p q → (nx : Next) → front q ≡ nx → reading.printed_by left nx q ≡ Read x → IsPrinted left p x.0 x.1
     go q l shl next.Text is h =
         let (a, text-is, h) = bound (text q) _ x h in
         let (l', texting) = text-takes q a text-is in
@@ -80,7 +80,7 @@ printed-sound left p x h =
     go q l shl (next.Keyword k) is h = shown q l shl h
     go q l shl other is h = shown q l shl h
 
-items-sound : (left turns : ℕ) (found : List Item) (p : Place) (x : List Item × Place) → reading.items_from left turns found p ≡ Some x
+items-sound : (left turns : ℕ) (found : List Item) (p : Place) (x : List Item × Place) → reading.items_from left turns found p ≡ Read x
     → (l : List (ℕ × form.Printed)) × (0 < length l) × (x.0 ≡ found ++ map (λ printed. form.printed_tree printed.1) l) × (p.rest ≡ in_sequence form.shifted_in_front l x.1.rest)
     × (x.1.instances ≡ p.instances) × each (λ printed. form.IsLawfulPrinted printed.1) l × each (λ printed. PrintedFits printed.1 left) l
 unfolding reading.items_from
@@ -90,8 +90,8 @@ items-sound left (suc turns) found p x h =
     go a (printed-sound left p a printed-is) (sees sign.Shl a.1) h (λ y. items-sound left turns (found ++ a.0 ∷ []) a.1 y)
   where
     go : (a : Item × Place) → IsPrinted left p a.0 a.1 → (b : Bool)
-        → cond b (reading.items_from left turns (found ++ a.0 ∷ []) a.1) (Some (found ++ a.0 ∷ [], a.1)) ≡ Some x
-        → ((y : List Item × Place) → reading.items_from left turns (found ++ a.0 ∷ []) a.1 ≡ Some y
+        → cond b (reading.items_from left turns (found ++ a.0 ∷ []) a.1) (Read (found ++ a.0 ∷ [], a.1)) ≡ Read x
+        → ((y : List Item × Place) → reading.items_from left turns (found ++ a.0 ∷ []) a.1 ≡ Read y
         → (l : List (ℕ × form.Printed)) × (0 < length l) × (y.0 ≡ (found ++ a.0 ∷ []) ++ map (λ printed. form.printed_tree printed.1) l) × (a.1.rest ≡ in_sequence form.shifted_in_front l y.1.rest)
         × (y.1.instances ≡ a.1.instances) × each (λ printed. form.IsLawfulPrinted printed.1) l × each (λ printed. PrintedFits printed.1 left) l)
         → (l : List (ℕ × form.Printed)) × (0 < length l) × (x.0 ≡ found ++ map (λ printed. form.printed_tree printed.1) l) × (p.rest ≡ in_sequence form.shifted_in_front l x.1.rest)
@@ -108,7 +108,7 @@ items-sound left (suc turns) found p x h =
           (s.fits, fits),
         )
     go a s false h later =
-        let same = some-is h in (
+        let same = read-is h in (
           s.written ∷ [],
           omega arith,
           sym (ap (λ y. y.0) same) ∙ ap (λ e. found ++ e ∷ []) (sym s.is_tree),
@@ -118,7 +118,7 @@ items-sound left (suc turns) found p x h =
           (s.fits, tt),
         )
 
-pub print-sound : (left : ℕ) (p : Place) → front p ≡ next.Keyword key.Std → (x : What × Place) → reading.print left p ≡ Some x → Started left p x.0 x.1
+pub print-sound : (left : ℕ) (p : Place) → front p ≡ next.Keyword key.Std → (x : What × Place) → reading.print left p ≡ Read x → Started left p x.0 x.1
 unfolding reading.print advance
 print-sound left p first x h =
     let (l0, std) = keyword-takes p key.Std first in

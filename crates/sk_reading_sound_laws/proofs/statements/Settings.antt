@@ -16,10 +16,10 @@ use Rattle.sk_tree.specs.declared.tree.What.TheVariants as what
 use Rattle.sk_reading.specs.declared.keyword.Keyword.TheVariants as key
 use Rattle.sk_reading.specs.declared.setting.SettingWord.{SettingWord}
 use Rattle.sk_reading.specs.declared.setting.SettingWord.TheVariants as words
-use Rattle.sk_reading.specs.Reading.{Place, expect, expect_keyword, name, word_in, opened, line_of}
+use Rattle.sk_reading.specs.Reading.{Place, Read, expect, expect_keyword, name, word_in, opened_by, line_of}
 use Rattle.sk_reading.specs.ReadingAssignments as assignments
 use Rattle.sk_reading.specs.ReadingForms as reading
-use Rattle.sk_reading_sound_laws.proofs.Steps.{lines_of, bound, along, expect-takes, name-takes, word_in-takes, expect_keyword-takes, opens}
+use Rattle.sk_reading_sound_laws.proofs.Steps.{lines_of, bound, along, expect-takes, name-takes, word_in-takes, expect_keyword-takes, opened_by-takes}
 use Rattle.sk_reading.proofs.Entries.{word-of, mapped}
 use Rattle.sk_reading_sound_laws.proofs.statements.Assignments.{inside-sound, places-sound}
 use Rattle.sk_reading_sound_laws.proofs.statements.Started.{Started}
@@ -47,7 +47,7 @@ setting-word : (kw : List ℕ) (kind : SettingWord) → meant_by reading.setting
 setting-word kw kind h = word-of setting_word reading.setting_words kw kind (refl, (refl, (refl, (refl, (refl, (refl, tt)))))) h
 
 set-value : (left : ℕ) (kind : SettingWord) (sets : Expr → Setting) → meant_by value_words (setting_word kind) ≡ Some sets → (p : Place) (a : Expr × Place)
-    → assignments.value_inside (suc left) p ≡ Some a → (x : Setting × Place) → Some (sets a.0, a.1) ≡ Some x → SetsTo (suc left) p kind x.0 x.1
+    → assignments.value_inside (suc left) p ≡ Read a → (x : Setting × Place) → Read (sets a.0, a.1) ≡ Read x → SetsTo (suc left) p kind x.0 x.1
 set-value left kind sets meant p a value-is x h =
     let v = inside-sound left p a value-is in
     along (SetsTo (suc left) p kind) h (record {
@@ -60,7 +60,7 @@ set-value left kind sets meant p a value-is x h =
       instances = v.instances;
     })
 
-set-overlap : (left : ℕ) (p : Place) (a : List Expr × Place) → assignments.places (suc left) p ≡ Some a → (x : Setting × Place) → Some (setting.Overlap a.0, a.1) ≡ Some x → SetsTo (suc left) p words.Overlap x.0 x.1
+set-overlap : (left : ℕ) (p : Place) (a : List Expr × Place) → assignments.places (suc left) p ≡ Read a → (x : Setting × Place) → Read (setting.Overlap a.0, a.1) ≡ Read x → SetsTo (suc left) p words.Overlap x.0 x.1
 set-overlap left p a places-are x h =
     let v = places-sound left p a places-are in
     along (SetsTo (suc left) p words.Overlap) h (record {
@@ -85,7 +85,7 @@ record IsMode {A : Type 0} (family : List ℕ) (modes : List (List ℕ × A)) (p
   tokens : p.rest ≡ word (codes "skepu") l4 ∷ sign_at sign.Path l5 ∷ word family l6 ∷ sign_at sign.Path l7 ∷ word m l8 ∷ q.rest
   instances : q.instances ≡ p.instances
 
-mode-sound : {A : Type 0} (family : List ℕ) (modes : List (List ℕ × A)) (p : Place) (x : A × Place) → reading.mode (reading.one_word family) modes p ≡ Some x → IsMode family modes p x.0 x.1
+mode-sound : {A : Type 0} (family : List ℕ) (modes : List (List ℕ × A)) (p : Place) (x : A × Place) → reading.mode (reading.one_word family) modes p ≡ Read x → IsMode family modes p x.0 x.1
 unfolding reading.mode
 mode-sound family modes p x h =
     let (u4, skepu-is, h) = bound (expect_keyword key.Skepu p) _ x h in
@@ -112,8 +112,8 @@ mode-sound family modes p x h =
     }
 
 set-mode : {A : Type 0} (left : ℕ) (kind : SettingWord) (family : Family) (modes : List (List ℕ × A)) (sets : A → Setting) → meant_by mode_words (setting_word kind) ≡ Some family
-    → family.modes ≡ map (λ entry. (entry.0, sets entry.1)) modes → (p : Place) (a : A × Place) → reading.mode (reading.one_word family.name) modes p ≡ Some a
-    → (x : Setting × Place) → Some (sets a.0, a.1) ≡ Some x → SetsTo (suc left) p kind x.0 x.1
+    → family.modes ≡ map (λ entry. (entry.0, sets entry.1)) modes → (p : Place) (a : A × Place) → reading.mode (reading.one_word family.name) modes p ≡ Read a
+    → (x : Setting × Place) → Read (sets a.0, a.1) ≡ Read x → SetsTo (suc left) p kind x.0 x.1
 set-mode left kind family modes sets meant same p a mode-is x h =
     let v = mode-sound family.name modes p a mode-is in
     along (SetsTo (suc left) p kind) h (record {
@@ -127,7 +127,7 @@ set-mode left kind family modes sets meant same p a mode-is x h =
       instances = v.instances;
     })
 
-set_by-sound : (left : ℕ) (kind : SettingWord) (p : Place) (x : Setting × Place) → reading.set_by (suc left) kind p ≡ Some x → SetsTo (suc left) p kind x.0 x.1
+set_by-sound : (left : ℕ) (kind : SettingWord) (p : Place) (x : Setting × Place) → reading.set_by (suc left) kind p ≡ Read x → SetsTo (suc left) p kind x.0 x.1
 set_by-sound left words.Start p x h = let (a, is, h) = bound (assignments.value_inside (suc left) p) _ x h in set-value left words.Start setting.Start refl p a is x h
 set_by-sound left words.Pad p x h = let (a, is, h) = bound (assignments.value_inside (suc left) p) _ x h in set-value left words.Pad setting.Pad refl p a is x h
 set_by-sound left words.Overlap p x h = let (a, is, h) = bound (assignments.places (suc left) p) _ x h in set-overlap left p a is x h
@@ -141,7 +141,7 @@ set_by-sound left words.Edge p x h =
     let (a, is, h) = bound (reading.mode (reading.one_word (codes "Edge")) reading.edge_words p) _ x h in
     set-mode left words.Edge (record { name = codes "Edge"; modes = (codes "Duplicate", setting.Edge Duplicate) ∷ (codes "Cyclic", setting.Edge Cyclic) ∷ (codes "Pad", setting.Edge PadEdge) ∷ [] }) reading.edge_words setting.Edge refl refl p a is x h
 
-pub set-sound : (left : ℕ) (p : Place) (x : What × Place) → reading.set left p ≡ Some x → Started left p x.0 x.1
+pub set-sound : (left : ℕ) (p : Place) (x : What × Place) → reading.set left p ≡ Read x → Started left p x.0 x.1
 unfolding reading.set
 set-sound left p x h =
     let (w, name-is, h) = bound (name p) _ x h in
@@ -150,16 +150,14 @@ set-sound left p x h =
     let (l1, dot) = expect-takes w.1 sign.Dot u1 dot-is in
     let (k, kind-is, h) = bound (word_in reading.setting_words u1.1) _ x h in
     let (l2, kw, meant, kind) = word_in-takes reading.setting_words u1.1 k kind-is in
-    let (o, open-is, h) = bound (opened left k.1) _ x h in
-    let (inside, left-is, same) = opens left k.1 o open-is in
-    let (u3, paren-is, h) = bound (expect sign.OpenParen o.1) _ x h in
-    let (l3, opening) = expect-takes o.1 sign.OpenParen u3 paren-is in
+    let (u3, open-is, h) = bound (opened_by sign.OpenParen left k.1) _ x h in
+    let (inside, left-is, l3, opening) = opened_by-takes sign.OpenParen left k.1 u3 open-is in
     let (a, made-is, h) = bound (reading.set_by left k.0 u3.1) _ x h in
     let made = subst (λ n. SetsTo n u3.1 k.0 a.0 a.1) (sym left-is) (set_by-sound inside k.0 u3.1 a (ap (λ n. reading.set_by n k.0 u3.1) (sym left-is) ∙ made-is)) in
     let (u4, close-is, h) = bound (expect sign.CloseParen a.1) _ x h in
     let (l4, closing) = expect-takes a.1 sign.CloseParen u4 close-is in
-    let to = naming.tokens ∙ ap (λ z. word w.0 l0 ∷ z) (dot.tokens ∙ ap (λ z. sign_at sign.Dot l1 ∷ z) (kind.tokens ∙ ap (λ z. word kw l2 ∷ z) (sym (ap (λ (z : Place). z.rest) same) ∙ opening.tokens))) in
-    let total : u4.1.instances ≡ p.instances = closing.instances ∙ made.instances ∙ opening.instances ∙ ap (λ (z : Place). z.instances) same ∙ kind.instances ∙ dot.instances ∙ naming.instances in
+    let to = naming.tokens ∙ ap (λ z. word w.0 l0 ∷ z) (dot.tokens ∙ ap (λ z. sign_at sign.Dot l1 ∷ z) (kind.tokens ∙ ap (λ z. word kw l2 ∷ z) opening.tokens)) in
+    let total : u4.1.instances ≡ p.instances = closing.instances ∙ made.instances ∙ opening.instances ∙ kind.instances ∙ dot.instances ∙ naming.instances in
     along (Started left p) h (record {
       written = λ line. made.written l0 l1 l2 l3 l4 line w.0 kw;
       lawful = λ line. made.lawful l0 l1 l2 l3 l4 line w.0 kw free meant;

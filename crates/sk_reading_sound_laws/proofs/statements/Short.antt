@@ -1,5 +1,5 @@
 -- What is read as a statement that ends with `;` has a lawful spelling that keeps the limits.
-use Rattle.std.proofs.Common.{◌≡◌, ℕ, ◌+◌, ◌≤◌, Bool, true, false, cond, [], ◌∷◌, Some, codes, refl, ap, sym, ◌∙◌, arith}
+use Rattle.std.proofs.Common.{◌≡◌, ℕ, ◌+◌, ◌≤◌, Bool, true, false, cond, [], ◌∷◌, codes, refl, ap, sym, ◌∙◌, arith}
 use Rattle.sk_grammar.specs.ExpressionSpelling.{in_front, arguments_in_front, sign_at, word}
 use Rattle.sk_grammar.specs.Limits.{TargetFits, WrittenFits, written_instances}
 use Rattle.sk_grammar.specs.StatementSpelling as form
@@ -14,7 +14,7 @@ use Rattle.sk_reading.specs.declared.reach.Reach.TheVariants.{Whole}
 use Rattle.sk_reading.specs.declared.keyword.Keyword.TheVariants as key
 use Rattle.sk_reading.specs.declared.target.Target.{Target}
 use Rattle.sk_reading.specs.declared.target.Target.TheVariants.{Variable, Element, Bracketed}
-use Rattle.sk_reading.specs.Reading.{Place, front, advance, sees, expect, line_of}
+use Rattle.sk_reading.specs.Reading.{Place, Read, front, advance, sees, expect, line_of}
 use Rattle.sk_reading.specs.ReadingAssignments as assignments
 use Rattle.sk_reading.specs.ReadingForms as reading
 use Rattle.sk_reading_sound_laws.proofs.Steps.{lines_of, bound, along, expect-takes, keyword-takes}
@@ -28,7 +28,7 @@ use Rattle.sk_reading_sound_laws.proofs.statements.Prints.{print-sound}
 
 -- ---- returns
 
-return-sound : (left : ℕ) (p : Place) → front p ≡ next.Keyword key.Return → (x : What × Place) → reading.returned left p ≡ Some x → Started left p x.0 x.1
+return-sound : (left : ℕ) (p : Place) → front p ≡ next.Keyword key.Return → (x : What × Place) → reading.returned left p ≡ Read x → Started left p x.0 x.1
 unfolding reading.returned advance
 return-sound left p first x h =
     let (l0, returns) = keyword-takes p key.Return first in
@@ -51,7 +51,7 @@ called-by (Variable w) = what.Call w []
 called-by (Element w es) = what.Call w es
 called-by (Bracketed w e) = what.Call w []
 
-call-sound : (left : ℕ) (p q : Place) (t : Target) → IsTarget left p t q → (x : What × Place) → reading.call_of left t q ≡ Some x → Started left p x.0 x.1
+call-sound : (left : ℕ) (p q : Place) (t : Target) → IsTarget left p t q → (x : What × Place) → reading.call_of left t q ≡ Read x → Started left p x.0 x.1
 call-sound left p q (Variable w) s x h = absurd (cc)
 call-sound left p q (Bracketed w e) s x h = absurd (cc)
 call-sound left p q (Element w es) s x h = go s.spelling s.lawful s.fits s.tokens s.is_value
@@ -70,34 +70,34 @@ call-sound left p q (Element w es) s x h = go s.spelling s.lawful s.fits s.token
           few = λ few. omega (arith, s.instances, few);
         })
 
-used-sound : (left : ℕ) (p : Place) (x : What × Place) → reading.used left p ≡ Some x → Started left p x.0 x.1
+used-sound : (left : ℕ) (p : Place) (x : What × Place) → reading.used left p ≡ Read x → Started left p x.0 x.1
 unfolding reading.used
 used-sound left p x h =
     let (a, target-is, h) = bound (assignments.target left p) _ x h in
     go a (target-sound left p a target-is) (sees sign.Semi a.1) h
   where
-    go : (a : Target × Place) → IsTarget left p a.0 a.1 → (b : Bool) → cond b (reading.call_of left a.0 a.1) (assignments.update left a.0 a.1) ≡ Some x → Started left p x.0 x.1
+    go : (a : Target × Place) → IsTarget left p a.0 a.1 → (b : Bool) → cond b (reading.call_of left a.0 a.1) (assignments.update left a.0 a.1) ≡ Read x → Started left p x.0 x.1
     go a s true h = call-sound left p a.1 a.0 s x h
     go a s false h = simply left p x (assigning left p x (update-sound left p a.1 a.0 s x h))
 
 -- ---- all of them
 
-by_name-sound : (left : ℕ) (p : Place) (x : What × Place) → reading.by_name left p ≡ Some x → Started left p x.0 x.1
+by_name-sound : (left : ℕ) (p : Place) (x : What × Place) → reading.by_name left p ≡ Read x → Started left p x.0 x.1
 unfolding reading.by_name
 by_name-sound left p x h = go (reading.begins_setting p) h
   where
-    go : (b : Bool) → cond b (reading.set left p) (reading.used left p) ≡ Some x → Started left p x.0 x.1
+    go : (b : Bool) → cond b (reading.set left p) (reading.used left p) ≡ Read x → Started left p x.0 x.1
     go true h = set-sound left p x h
     go false h = used-sound left p x h
 
-begun-sound : (left : ℕ) (p : Place) (x : What × Place) → reading.begun left p ≡ Some x → Started left p x.0 x.1
+begun-sound : (left : ℕ) (p : Place) (x : What × Place) → reading.begun left p ≡ Read x → Started left p x.0 x.1
 unfolding reading.begun
 begun-sound left p x h = go (front p) refl h
   where
-    other-sound : assignments.assignment left p ≡ Some x → Started left p x.0 x.1
+    other-sound : assignments.assignment left p ≡ Read x → Started left p x.0 x.1
     other-sound h = simply left p x (assigning left p x (assignment-sound left p x h))
 
-    go : (nx : Next) → front p ≡ nx → reading.short_by left nx p ≡ Some x → Started left p x.0 x.1
+    go : (nx : Next) → front p ≡ nx → reading.short_by left nx p ≡ Read x → Started left p x.0 x.1
     go (next.Keyword key.Int) is h = simply left p x (declaration-sound left p x h)
     go (next.Keyword key.Long) is h = simply left p x (declaration-sound left p x h)
     go (next.Keyword key.Skepu) is h = container left p is x h
@@ -118,7 +118,7 @@ pub record IsWritten (left : ℕ) (p : Place) (made : Statement) (q : Place) : T
   pub instances : q.instances ≡ p.instances + written_instances written
   pub few : p.instances ≤ 1024 → q.instances ≤ 1024
 
-pub short-sound : (left : ℕ) (p : Place) (x : What × Place) → reading.short left p ≡ Some x → IsWritten left p (at_line (line_of p.rest) x.0) x.1
+pub short-sound : (left : ℕ) (p : Place) (x : What × Place) → reading.short left p ≡ Read x → IsWritten left p (at_line (line_of p.rest) x.0) x.1
 unfolding reading.short
 short-sound left p x h =
     let (a, begun-is, h) = bound (reading.begun left p) _ x h in

@@ -4,9 +4,9 @@ use Rattle.sk_reading.specs.ReadingPrograms.{parameters_from}
 use Rattle.sk_reader.proofs.Turns.{one_more, no_more}
 use Rattle.sk_reader.proofs.function.some_parameters.Goals as goal
 
-pub returns-then-len-ge-MOST_PARAMETERS : goal.returns-then-len-ge-MOST_PARAMETERS
+pub returns-in_err-count_parameter : goal.returns-in_err-count_parameter
 unfolding parameters_from
-returns-then-len-ge-MOST_PARAMETERS c =
+returns-in_err-count_parameter c =
     let e = one_more (λ n. parameters_from n c.loop-turn.found c.loop-turn.cursor) _ c.loop-turn._turn c.loop-turn-test.true c.loop-turn.invariant in
     first_of (search rules, grind (arith, common_steps))
 

@@ -2,23 +2,23 @@ use Rattle.std.proofs.Common.{rules, arith}
 use Rattle.std.proofs.lemmas.Grind.{common_steps}
 use Rattle.sk_reading.specs.ReadingPrograms.{functions_from}
 use Rattle.sk_reader.proofs.Turns.{one_more, no_more}
-use Rattle.sk_reader.proofs.program.functions.Goals as goal
+use Rattle.sk_reader.proofs.program.program.Goals as goal
 
-pub returns-then-is_at_end-clause-found : goal.returns-then-is_at_end-clause-found
+pub returns-then-is_at_end : goal.returns-then-is_at_end
 unfolding functions_from
-returns-then-is_at_end-clause-found c =
+returns-then-is_at_end c =
     let e = one_more (λ n. functions_from n c.loop-turn.found c.loop-turn.cursor) _ c.loop-turn._turn c.loop-turn-test.true c.loop-turn.invariant in
     first_of (search rules, grind (arith, common_steps))
 
-pub returns-then-len-ge-MOST_FUNCTIONS-clause-refused : goal.returns-then-len-ge-MOST_FUNCTIONS-clause-refused
+pub returns-in_err-count_function : goal.returns-in_err-count_function
 unfolding functions_from
-returns-then-len-ge-MOST_FUNCTIONS-clause-refused c =
+returns-in_err-count_function c =
     let e = one_more (λ n. functions_from n c.loop-turn.found c.loop-turn.cursor) _ c.loop-turn._turn c.loop-turn-test.true c.loop-turn.invariant in
     first_of (search rules, grind (arith, common_steps))
 
-pub returns-in_err-function-clause-refused : goal.returns-in_err-function-clause-refused
+pub returns-in_err-function : goal.returns-in_err-function
 unfolding functions_from
-returns-in_err-function-clause-refused c =
+returns-in_err-function c =
     let e = one_more (λ n. functions_from n c.loop-turn.found c.loop-turn.cursor) _ c.loop-turn._turn c.loop-turn-test.true c.loop-turn.invariant in
     first_of (search rules, grind (arith, common_steps))
 
@@ -28,14 +28,14 @@ loop-turn-preserved c =
     let e = one_more (λ n. functions_from n c.loop-turn.found c.loop-turn.cursor) _ c.loop-turn._turn c.loop-turn-test.true c.loop-turn.invariant in
     first_of (search rules, grind (arith, common_steps))
 
-pub returns-then-not-is_at_end-clause-refused : goal.returns-then-not-is_at_end-clause-refused
+pub returns-then-not-is_at_end : goal.returns-then-not-is_at_end
 unfolding functions_from
-returns-then-not-is_at_end-clause-refused c =
+returns-then-not-is_at_end c =
     let e = no_more (λ n. functions_from n c.loop-turn.found c.loop-turn.cursor) _ c.loop-turn._turn c.loop-turn-test.false c.loop-turn.invariant in
     first_of (search rules, grind (arith, common_steps))
 
-pub returns-clause-found : goal.returns-clause-found
+pub returns : goal.returns
 unfolding functions_from
-returns-clause-found c =
+returns c =
     let e = no_more (λ n. functions_from n c.loop-turn.found c.loop-turn.cursor) _ c.loop-turn._turn c.loop-turn-test.false c.loop-turn.invariant in
     first_of (search rules, grind (arith, common_steps))

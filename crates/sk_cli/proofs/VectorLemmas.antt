@@ -1,13 +1,11 @@
 -- A vector of equal cells suits an instance that takes one vector by elements.
-use Rattle.std.proofs.Common.{◌≡◌, to_z, of_z, w64, Result, ◌∙◌, ℕ, ◌<◌, ◌≤◌, ◌^◌, ℤ, pos, List, [], ◌∷◌, sym, ap, subst, arith, rules, true, Some, None, Option, replicate, zero, suc, refl, Ok, slice_get}
-use Rattle.std.specs.Prelude.{IsSomeAnd, All, nat_lt}
+use Rattle.std.proofs.Common.{◌≡◌, to_z, of_z, w64, Result, ◌∙◌, ℕ, ◌+◌, ◌<◌, ◌≤◌, ◌^◌, ℤ, pos, List, [], ◌∷◌, sym, ap, subst, arith, rules, true, Some, replicate, zero, suc, refl, Ok, slice_get}
+use Rattle.std.specs.Prelude.{IsOk, Bool, false, length, nat_lt, if◌then◌else◌, slice_index_or}
+use Rattle.std.proofs.lemmas.List.{ext_get_or, get_or-replicate, length-replicate}
 use Rattle.std.specs.Result.{result_unwrap_or}
-use Rattle.sk_base.specs.Arithmetic.{InRange}
 use Rattle.sk_base.specs.declared.number.Trap.{Trap}
 use Rattle.sk_base.specs.Shape.{IsShape, cells_of, shape_of}
-use Rattle.sk_base.specs.declared.number.Ty.TheVariants.{Int}
-use Rattle.sk_tree.specs.declared.tree.ParamKind.{ParamKind}
-use Rattle.sk_kernel.specs.Kernels.{Meaning, Source, Suits, Agree, given_by, SuitKinds, AreOfTypes, SuitsOver, operand_type, place_in}
+use Rattle.sk_kernel.specs.Kernels.{Meaning, Suits, SuitsRun, Agree, AgreeRun, given_by, run_pair, run_place, run_value, SuitKinds, AreOfTypes, SuitsOver, place_in}
 use Rattle.std.proofs.lemmas.Bool.{lt-ltb}
 use Rattle.std.proofs.lemmas.Int.{to_z-of_z}
 use Rattle.sk_cli.proofs.FirstStatements.{shape_of-one}
@@ -66,3 +64,52 @@ pub shape-read : (size : ℕ) (passed : ℤ) → size ≤ 2 ^ 24 → passed ≡ 
 shape-read size passed small is =
     let read : to_z w64 (of_z w64 (pos size)) ≡ pos size = to_z-of_z w64 (pos size) (record { sfits = omega arith }) in
     rw (is, read) (shape_of-one size small)
+
+-- the places of a Map over a vector
+one-place : (meaning : Meaning) → meaning.pairs ≡ false → (behind : ℕ) → run_place meaning 0 behind ≡ behind
+one-place meaning single behind =
+    let same : 0 + behind ≡ behind = omega arith in
+    ap (λ (pairs : Bool). if pairs then 0 else 0 + behind) single ∙ same
+
+no-pair : (meaning : Meaning) → meaning.pairs ≡ false → (behind : ℕ) → run_pair meaning 0 behind ≡ 0
+no-pair meaning single behind = ap (λ (pairs : Bool). if pairs then 0 + behind else 0) single
+
+-- all places of a vector of equal cells
+module _ (meaning : Meaning) (cells : List ℤ) (sizes : List ℕ) (size count : ℕ) (fill value : ℤ) (equal : cells ≡ replicate size fill)
+    (shape : sizes ≡ size ∷ []) (maps : MapsEqualCells meaning size fill value) (all : count ≡ size) where
+  inside-run : (behind : ℕ) → behind < count → behind < size
+  inside-run behind less = omega arith
+
+  pub run-suits : size ≤ 2 ^ 24 → SuitsRun meaning (vector_source cells sizes []) 0 0 count
+  run-suits small behind less =
+      subst (λ (n : ℕ). Suits meaning (vector_source cells sizes []) n (run_pair meaning 0 behind)) (sym (one-place meaning maps.pairs behind))
+      (subst (λ (n : ℕ). Suits meaning (vector_source cells sizes []) behind n) (sym (no-pair meaning maps.pairs behind))
+      (now-suits meaning meaning cells sizes size behind fill value refl equal shape maps (inside-run behind less) small))
+
+  pub run-agrees : AgreeRun meaning (vector_source cells sizes []) 0 0 count (λ operand index. fill)
+  run-agrees behind less =
+      subst (λ (n : ℕ). Agree meaning (vector_source cells sizes []) n (run_pair meaning 0 behind) (λ operand index. fill)) (sym (one-place meaning maps.pairs behind))
+      (subst (λ (n : ℕ). Agree meaning (vector_source cells sizes []) behind n (λ operand index. fill)) (sym (no-pair meaning maps.pairs behind))
+      (now-agrees meaning meaning cells sizes size behind fill value refl equal shape maps (inside-run behind less)))
+
+  pub run-gives : (behind : ℕ) → behind < count → run_value meaning (given_by (vector_source cells sizes []) (λ operand index. fill)) 0 0 behind ≡ Ok value
+  run-gives behind less =
+      ap (λ (n : ℕ). meaning.value (given_by (vector_source cells sizes []) (λ operand index. fill)) n (run_pair meaning 0 behind)) (one-place meaning maps.pairs behind)
+      ∙ ap (λ (n : ℕ). meaning.value (given_by (vector_source cells sizes []) (λ operand index. fill)) behind n) (no-pair meaning maps.pairs behind)
+      ∙ now-gives meaning meaning cells sizes size behind fill value refl equal shape maps (inside-run behind less)
+
+  pub run-ok : (behind : ℕ) → behind < count → IsOk (run_value meaning (given_by (vector_source cells sizes []) (λ operand index. fill)) 0 0 behind)
+  run-ok behind less = subst IsOk (sym (run-gives behind less)) refl
+
+  -- a result with these values
+  pub run-result : (out : List ℤ) → length out ≡ count
+      → ((cells' : ℕ → ℕ → ℤ) → AgreeRun meaning (vector_source cells sizes []) 0 0 count cells' → (place : ℕ) → place < count
+      → run_value meaning (given_by (vector_source cells sizes []) cells') 0 0 place ≡ Ok (slice_index_or out place (pos 0)))
+      → out ≡ replicate size value
+  run-result out long values =
+      ext_get_or (pos 0) out (replicate size value) (long ∙ all ∙ sym (length-replicate size value))
+      (λ place less.
+      let within : place < count = omega arith in
+      let in_size : place < size = omega arith in
+      value-once _ (slice_index_or out place (pos 0)) value (values (λ operand index. fill) run-agrees place within) (run-gives place within)
+      ∙ sym (get_or-replicate size place value (pos 0) in_size))

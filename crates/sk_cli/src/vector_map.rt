@@ -1,23 +1,25 @@
 //! A Map over a vector.
-ghost use Rattle.std.specs.Prelude.{◌≡◌, ◌≤◌, ◌^◌, ℕ, ℤ, Ok, IfOk, IsOk, replicate};
-ghost use Rattle.sk_kernel.specs.Kernels.{Suits, Agree, given_by};
+ghost use Rattle.std.specs.Prelude.{◌≡◌, ◌<◌, ◌≤◌, ◌^◌, ℕ, ℤ, pos, Ok, IfOk, IsOk, length, replicate, slice_index_or};
+ghost use Rattle.sk_kernel.specs.Kernels.{SuitsRun, AgreeRun, given_by, run_value};
 ghost use Rattle.sk_cli.specs.VectorMap.{MapsEqualCells};
 
 use sk_base::{Cell, Shape};
 use sk_kernel::{At, Data, Kernel, VectorCall};
 use std::alloc::{AllocError, Global};
 
-/// The function's value at an element, where it has one.
-fn element<K: Kernel, D: Data>(kernel: &mut K, source: &D, place: u32) -> Cell
-    requires suits { Suits (K.means kernel.old) (D.means source.now) place 0 }
-    requires value { (cells : ℕ → ℕ → ℤ) × Agree (K.means kernel.old) (D.means source.now) place 0 cells
-        × IsOk ((K.means kernel.old).value (given_by (D.means source.now) cells) place 0) }
-    ensures value { (cells : ℕ → ℕ → ℤ) → Agree (K.means kernel.old) (D.means source.now) place 0 cells
-        → (K.means kernel.old).value (given_by (D.means source.now) cells) place 0 ≡ Ok result }
-    ensures same { K.means kernel.new ≡ K.means kernel.old }
+/// The function's values at all elements, where it has one at each.
+fn map_each<K: Kernel, D: Data>(kernel: &mut K, source: &D, out: &mut [Cell])
+    requires suits { SuitsRun (K.means kernel.old) (D.means source.now) 0 0 (length out.old) }
+    requires few { length out.old < 2 ^ 32 }
+    requires values { (cells : ℕ → ℕ → ℤ) × AgreeRun (K.means kernel.old) (D.means source.now) 0 0 (length out.old) cells
+        × ((place : ℕ) → place < length out.old → IsOk (run_value (K.means kernel.old) (given_by (D.means source.now) cells) 0 0 place)) }
+    ensures values { (cells : ℕ → ℕ → ℤ) → AgreeRun (K.means kernel.old) (D.means source.now) 0 0 (length out.old) cells
+        → (place : ℕ) → place < length out.old
+        → run_value (K.means kernel.old) (given_by (D.means source.now) cells) 0 0 place ≡ Ok (slice_index_or out.new place (pos 0)) }
+    ensures count { length out.new ≡ length out.old }
 {
-    match kernel.apply(source, At { place, pair: 0 }) {
-        Ok(value) => value,
+    match kernel.apply_each(source, At { place: 0, pair: 0 }, out) {
+        Ok(()) => {}
         Err(_) => unreachable!(),
     }
 }
@@ -38,14 +40,12 @@ pub fn mapped<K: Kernel>(
         unreachable!()
     };
     let before = vec![in alloc; fill; size as usize]?;
-    let mut after = Vec::with_capacity(alloc, size as usize)?;
+    let mut after = vec![in alloc; 0; size as usize]?;
     let call = VectorCall {
         cells: before.as_slice(),
         shape: &shape,
         uniforms: &[],
     };
-    'each: for place in 0..size {
-        after.push(element(kernel, &call, place))?;
-    }
+    map_each(kernel, &call, &mut after);
     Ok(after)
 }

@@ -80,11 +80,11 @@ suit_from_each (Proxy dimension own ∷ kinds) (number ∷ numbers) scalars coun
 suit_from_each (Region dimension own ∷ kinds) (number ∷ numbers) scalars count each = cc
 
 -- what the data has, for an element and for a uniform argument
-argument-element : (source : Source) (elements : ℕ) (pairs : Bool) (place pair k : ℕ) → k < elements
+pub argument-element : (source : Source) (elements : ℕ) (pairs : Bool) (place pair k : ℕ) → k < elements
     → argument_at source elements pairs place pair k ≡ source.held k (place_in pairs place pair k)
 argument-element source elements pairs place pair k less = cond-true (nat_lt k elements) _ _ (lt-ltb k elements less)
 
-argument-uniform : (source : Source) (elements : ℕ) (pairs : Bool) (place pair k : ℕ) → elements ≤ k
+pub argument-uniform : (source : Source) (elements : ℕ) (pairs : Bool) (place pair k : ℕ) → elements ≤ k
     → argument_at source elements pairs place pair k ≡ slice_get source.uniforms (k - elements)
 argument-uniform source elements pairs place pair k upto = cond-false (nat_lt k elements) _ _ (le-ltb k elements upto)
 

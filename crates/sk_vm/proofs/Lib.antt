@@ -1,10 +1,13 @@
 pub mod Arguments
 pub mod Arms
 pub mod Calls
+pub mod Evaluated
 pub mod Finds
 pub mod Given
 pub mod Lawful
 pub mod Middle
+pub mod Parameters
+pub mod PlaceParts
 pub mod Ran
 pub mod Running
 pub mod Starts

@@ -3,6 +3,7 @@ pub mod Calls
 pub mod Entries
 pub mod Frames
 pub mod Instantiated
+pub mod Lent
 pub mod Needs
 pub mod Points
 pub mod Rooms

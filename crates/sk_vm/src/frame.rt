@@ -1,4 +1,4 @@
-ghost use Rattle.std.specs.Prelude.{◌≡◌, ℕ, ℤ, All, ◌<◌, ◌≤◌, ◌+◌, ◌^◌, suc, List, [], ◌∷◌, length, IfOk};
+ghost use Rattle.std.specs.Prelude.{◌≡◌, ℕ, ℤ, All, ◌<◌, ◌≤◌, ◌+◌, ◌^◌, suc, true, pos, Ok, List, [], ◌∷◌, length, slice_index_or, IfErr, IfOk};
 ghost use Rattle.sk_base.specs.Arithmetic.{InRange};
 ghost use Rattle.sk_kernel.specs.Instances.{function_meaning};
 ghost use Rattle.sk_isa.specs.Objects.{invoked, signature_at};
@@ -7,12 +7,15 @@ ghost use Rattle.sk_isa.specs.SoundObjects.{HasSoundFunctions, TakesScalars};
 ghost use Rattle.sk_isa.specs.Soundness.{SuitParams};
 ghost use Rattle.sk_meaning.specs.Evaluation.{Value};
 ghost use Rattle.sk_vm.specs.Frames.{HasRoom, IsUnread, MayRead, reading_by};
+ghost use Rattle.sk_vm.specs.Lent.{ArePart, ArePartOfType};
 ghost use Rattle.sk_vm.specs.Rooms.{depth_below, slots_below};
 
 use crate::entry::Entry;
+use crate::lent::Lent;
 use crate::parts::{index_of, place_behind};
 use crate::start::{Reading, start, start_with};
 use sk_base::{Cell, Trap};
+use sk_columns::{Level, evaluate, is_straight};
 use sk_isa::{Code, Object};
 use sk_kernel::{At, Data, RunTrap};
 use std::alloc::{AllocError, Global};
@@ -27,6 +30,8 @@ pub struct Frame {
     pairs: bool,
     stack: Vec<Cell>,
     slots: Vec<Cell>,
+    levels: Vec<Level>,
+    rows: Vec<Cell>,
 }
 
 impl Model for Frame {
@@ -47,7 +52,8 @@ impl Model for Frame {
 impl Frame {
     /// A frame for a function, with room for all calls below it. All its parameters are uniform arguments.
     ///
-    /// It takes as much room as the functions up to this one have together.
+    /// It takes as much room as the functions up to this one have together, and a row of a block's length for each value on
+    /// the stack of a straight function.
     pub fn new(alloc: Global, object: &Object, function: u32) -> Result<Frame, AllocError>
         requires sound { HasSoundFunctions object.now }
         requires scalars { TakesScalars object.now }
@@ -56,6 +62,7 @@ impl Frame {
         ensures room { IfOk result (HasRoom object.now) }
     {
         let room = room_below(object.functions.as_slice(), function as usize + 1);
+        let height = height_of(object, function);
         Ok(Frame {
             function,
             index: index_of(object, function),
@@ -63,6 +70,8 @@ impl Frame {
             pairs: false,
             stack: vec![in alloc; 0; room.stack]?,
             slots: vec![in alloc; 0; room.slots]?,
+            levels: vec![in alloc; Level::Here; height]?,
+            rows: vec![in alloc; 0; height * BLOCK]?,
         })
     }
 
@@ -124,6 +133,157 @@ impl Frame {
         ensures count { length out.new ≡ length out.old }
         ensures same { self.new ≡ self.old }
     {
+        if self.levels.len() == 0 {
+            self.run_places(object, source, at, out)
+        } else {
+            self.run_blocks(object, source, at, out)
+        }
+    }
+
+    /// The same, a block of places at a time.
+    fn run_blocks<D: Data>(
+        &mut self,
+        object: &Object,
+        source: &D,
+        at: At,
+        out: &mut [Cell],
+    ) -> Result<(), RunTrap>
+        requires room { HasRoom object.now self.old }
+        requires suits { SuitsRun (function_meaning object.now self.old.function self.old.reading) (D.means source.now) at.place at.pair (length out.old) }
+        requires places { at.place + length out.old < 2 ^ 32 }
+        requires pairs { at.pair + length out.old < 2 ^ 32 }
+        ensures values { (cells : ℕ → ℕ → ℤ)
+            → AgreeRun (function_meaning object.now self.old.function self.old.reading) (D.means source.now) at.place at.pair (length out.old) cells
+            → AreValues (run_value (function_meaning object.now self.old.function self.old.reading) (given_by (D.means source.now) cells) at.place at.pair) out.new result }
+        ensures range { IfOk result (λ done. All (InRange (function_meaning object.now self.old.function self.old.reading).ty) out.new) }
+        ensures count { length out.new ≡ length out.old }
+        ensures same { self.new ≡ self.old }
+    {
+        let mut done = 0;
+        while done < out.len() {
+            let count = BLOCK.min(out.len() - done);
+            self.run_part(object, source, at, done, count, out)?;
+            done += count;
+        }
+        Ok(())
+    }
+
+    /// The same for so many places from one on.
+    fn run_part<D: Data>(
+        &mut self,
+        object: &Object,
+        source: &D,
+        at: At,
+        done: usize,
+        count: usize,
+        out: &mut [Cell],
+    ) -> Result<(), RunTrap>
+        requires within { done + count ≤ length out.old }
+        requires room { HasRoom object.now self.old }
+        requires suits { SuitsRun (function_meaning object.now self.old.function self.old.reading) (D.means source.now) at.place at.pair (length out.old) }
+        requires places { at.place + length out.old < 2 ^ 32 }
+        requires pairs { at.pair + length out.old < 2 ^ 32 }
+        ensures values { (cells : ℕ → ℕ → ℤ)
+            → AgreeRun (function_meaning object.now self.old.function self.old.reading) (D.means source.now) at.place at.pair (length out.old) cells
+            → ArePart done count (run_value (function_meaning object.now self.old.function self.old.reading) (given_by (D.means source.now) cells) at.place at.pair) out.new result }
+        ensures range { IfOk result (λ ended. ArePartOfType (function_meaning object.now self.old.function self.old.reading).ty done count out.new) }
+        ensures before { (behind : ℕ) → behind < done → slice_index_or out.new behind (pos 0) ≡ slice_index_or out.old behind (pos 0) }
+        ensures count { length out.new ≡ length out.old }
+        ensures same { self.new ≡ self.old }
+    {
+        let (_, rest) = out.split_at_mut(done);
+        let (block, _) = rest.split_at_mut(count);
+        let offset = done as u32;
+        match self.run_block(object, source, place_behind(at, self.pairs, offset), block) {
+            Ok(()) => Ok(()),
+            Err(trapped) => Err(RunTrap {
+                trap: trapped.trap,
+                offset: offset + trapped.offset,
+            }),
+        }
+    }
+
+    /// The same for a block of places, all at once, or place by place where that fails.
+    fn run_block<D: Data>(
+        &mut self,
+        object: &Object,
+        source: &D,
+        at: At,
+        out: &mut [Cell],
+    ) -> Result<(), RunTrap>
+        requires room { HasRoom object.now self.old }
+        requires suits { SuitsRun (function_meaning object.now self.old.function self.old.reading) (D.means source.now) at.place at.pair (length out.old) }
+        requires places { at.place + length out.old < 2 ^ 32 }
+        requires pairs { at.pair + length out.old < 2 ^ 32 }
+        ensures values { (cells : ℕ → ℕ → ℤ)
+            → AgreeRun (function_meaning object.now self.old.function self.old.reading) (D.means source.now) at.place at.pair (length out.old) cells
+            → AreValues (run_value (function_meaning object.now self.old.function self.old.reading) (given_by (D.means source.now) cells) at.place at.pair) out.new result }
+        ensures range { IfOk result (λ done. All (InRange (function_meaning object.now self.old.function self.old.reading).ty) out.new) }
+        ensures inside { IfErr result (λ trapped. trapped.offset < length out.old) }
+        ensures count { length out.new ≡ length out.old }
+        ensures same { self.new ≡ self.old }
+    {
+        if self.evaluate_block(object, source, at, out) {
+            return Ok(());
+        }
+        self.run_places(object, source, at, out)
+    }
+
+    /// Evaluates the function at all places of a block at once, where that can be done and no place traps.
+    fn evaluate_block<D: Data>(
+        &mut self,
+        object: &Object,
+        source: &D,
+        at: At,
+        out: &mut [Cell],
+    ) -> bool
+        requires room { HasRoom object.now self.old }
+        requires suits { SuitsRun (function_meaning object.now self.old.function self.old.reading) (D.means source.now) at.place at.pair (length out.old) }
+        requires places { at.place + length out.old < 2 ^ 32 }
+        requires pairs { at.pair + length out.old < 2 ^ 32 }
+        ensures values { result ≡ true → (cells : ℕ → ℕ → ℤ)
+            → AgreeRun (function_meaning object.now self.old.function self.old.reading) (D.means source.now) at.place at.pair (length out.old) cells
+            → AreValues (run_value (function_meaning object.now self.old.function self.old.reading) (given_by (D.means source.now) cells) at.place at.pair) out.new (Ok tt) }
+        ensures range { result ≡ true → All (InRange (function_meaning object.now self.old.function self.old.reading).ty) out.new }
+        ensures count { length out.new ≡ length out.old }
+        ensures same { self.new ≡ self.old }
+    {
+        let entry = Entry {
+            object,
+            function: self.function,
+        };
+        let lent = Lent {
+            source,
+            elements: self.elements,
+            pairs: self.pairs,
+            place: at.place,
+            pair: at.pair,
+            places: out.len() as u32,
+            params: entry.param_count() as u32,
+        };
+        evaluate(entry.instrs(), &lent, out, &mut self.levels, &mut self.rows)
+    }
+
+    /// The same, one place after another.
+    fn run_places<D: Data>(
+        &mut self,
+        object: &Object,
+        source: &D,
+        at: At,
+        out: &mut [Cell],
+    ) -> Result<(), RunTrap>
+        requires room { HasRoom object.now self.old }
+        requires suits { SuitsRun (function_meaning object.now self.old.function self.old.reading) (D.means source.now) at.place at.pair (length out.old) }
+        requires places { at.place + length out.old < 2 ^ 32 }
+        requires pairs { at.pair + length out.old < 2 ^ 32 }
+        ensures values { (cells : ℕ → ℕ → ℤ)
+            → AgreeRun (function_meaning object.now self.old.function self.old.reading) (D.means source.now) at.place at.pair (length out.old) cells
+            → AreValues (run_value (function_meaning object.now self.old.function self.old.reading) (given_by (D.means source.now) cells) at.place at.pair) out.new result }
+        ensures range { IfOk result (λ done. All (InRange (function_meaning object.now self.old.function self.old.reading).ty) out.new) }
+        ensures inside { IfErr result (λ trapped. trapped.offset < length out.old) }
+        ensures count { length out.new ≡ length out.old }
+        ensures same { self.new ≡ self.old }
+    {
         for k in 0..out.len() {
             let offset = k as u32;
             match self.run(object, source, place_behind(at, self.pairs, offset)) {
@@ -147,6 +307,25 @@ impl Frame {
             function: self.function,
         };
         start_with(&entry, a, b, &mut self.stack, &mut self.slots)
+    }
+}
+
+/// How many places are evaluated at once.
+const BLOCK: usize = 1024;
+
+/// The most values on the stack of a function that is evaluated for a block of places.
+const MOST_LEVELS: u32 = 64;
+
+/// How many rows a function needs: as many as values may stand on its stack where it is straight, and else none.
+fn height_of(object: &Object, function: u32) -> usize
+    requires { function < length object.now.functions }
+    ensures { result ≤ 64 }
+{
+    let code = &object.functions.as_slice()[function as usize];
+    if code.depth <= MOST_LEVELS && is_straight(code.instrs.as_slice()) {
+        code.depth as usize
+    } else {
+        0
     }
 }
 

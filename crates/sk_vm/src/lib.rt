@@ -2,6 +2,7 @@
 //!
 //! - `coded`: an instance as a kernel.
 //! - `frame`: room to run one function, made once and used for every run.
+//! - `lent`: parameters at places one behind another, for runs of blocks of places.
 //! - `entry`: a function that may be run.
 //! - `start`: a function with its arguments.
 //! - `run`: the run of a function from its first address to its end.
@@ -15,6 +16,7 @@
 mod coded;
 mod entry;
 mod frame;
+mod lent;
 mod parts;
 mod run;
 mod stack;

@@ -1,10 +1,9 @@
-use Rattle.std.proofs.Common.{rules, ◌≡◌, ℕ, suc, ℤ, ◌<◌, ◌≤◌, ◌+◌, ◌-◌, ◌*◌, List, ◌++◌, length, take, drop, map, reverse, Some, Ok, Result, slice_set, sym, ap, subst, ◌∙◌, arith, FitsSigned, w64, length-take-le}
+use Rattle.std.proofs.Common.{rules, ◌≡◌, ℕ, ℤ, ◌<◌, ◌≤◌, ◌+◌, ◌-◌, ◌*◌, List, ◌++◌, length, drop, map, Some, Ok, Result, slice_set, sym, ap, subst, ◌∙◌, arith, FitsSigned, w64, length-take-le}
 use Rattle.sk_meaning.specs.Evaluation.{Value}
 use Rattle.sk_isa.specs.Objects.{signature_at}
-use Rattle.sk_isa.specs.Soundness.{SuitParams}
 use Rattle.sk_vm.specs.Calls.{MayCall}
 use Rattle.sk_vm.specs.Entries.{Entered}
-use Rattle.sk_vm.specs.Rooms.{Begins, depth_below, given_to, slots_below}
+use Rattle.sk_vm.specs.Rooms.{Begins, given_to}
 use Rattle.sk_vm.specs.Points.{values_in, point_at}
 use Rattle.std.proofs.lemmas.Int.{to_z-of_z}
 use Rattle.sk_base.specs.declared.number.Trap.{Trap}

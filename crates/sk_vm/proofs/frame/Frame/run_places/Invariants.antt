@@ -1,7 +1,7 @@
 use Rattle.std.proofs.Common.{◌≡◌, length}
 use Rattle.sk_kernel.specs.Instances.{function_meaning}
 use Rattle.sk_vm.proofs.Ran.{Ran}
-use Rattle.sk_vm.proofs.frame.Frame.run_each.Given as goal
+use Rattle.sk_vm.proofs.frame.Frame.run_places.Given as goal
 
 abbrev pub invariant-loop-k : goal.invariant-loop-k
 invariant-loop-k g l =

@@ -1,0 +1,4 @@
+pub mod Leading
+pub mod Narrow
+pub mod Stacks
+pub mod Standing

@@ -1,0 +1,6 @@
+use Rattle.std.proofs.Common.{◌≡◌, ℕ, ◌<◌, Ok, pos, slice_index_or}
+use Rattle.sk_columns.proofs.loops.onto_by.Given as goal
+
+abbrev pub invariant-loop-k : goal.invariant-loop-k
+invariant-loop-k g l =
+    ((place : ℕ) → place < l.k → g.F.Cellwise.takes (slice_index_or l.left place (pos 0)) l.right → g.F.Cellwise.makes (slice_index_or l.left place (pos 0)) l.right ≡ Ok (slice_index_or l.to place (pos 0)))

@@ -1,0 +1,14 @@
+use Rattle.std.proofs.Common.{rules, FitsSigned, subst, w64, ℤ}
+use Rattle.std.specs.Prelude.{IfSome}
+use Rattle.std.proofs.lemmas.Int.{to_z-of_z}
+use Rattle.sk_columns.specs.Blocks.{IsPushed}
+use Rattle.sk_columns.specs.declared.level.Level.TheVariants.{Number}
+use Rattle.sk_columns.proofs.Leading.{done_number}
+use Rattle.sk_columns.proofs.step.step.Goals as goal
+
+pub returns-in-Push : goal.returns-in-Push
+returns-in-Push g c =
+    let fits : FitsSigned w64 c.in-Push.number = search rules in
+    done_number c.args.instr.now c.in-Push.number (g.L.Lanes.known c.args.lanes.now) c.args.block c.args.height c.args.levels.now c.push.new.levels c.args.rows.now c.push.result
+    c.in-Push.is
+    (subst (λ (x : ℤ). IfSome c.push.result (λ after. IsPushed (Number x) c.args.height c.args.levels.now after c.push.new.levels)) (to_z-of_z w64 c.in-Push.number fits) c.push.ensures)

@@ -1,0 +1,71 @@
+-- Code at the places of a block.
+use Rattle.std.specs.Prelude.{◌≡◌, ℕ, zero, suc, ◌+◌, ◌*◌, ◌<◌, ◌≤◌, Bool, true, false, List, [], ◌∷◌, length, ℤ, pos, Option, Some, Ok, slice_get, slice_set, slice_index_or}
+use Rattle.sk_isa.specs.Coded.{Point, Routine, next_of, outcome_of}
+use Rattle.sk_isa.specs.Configurations.{Goes, Ended}
+use Rattle.sk_isa.specs.declared.code.Instr.{Instr}
+use Rattle.sk_isa.specs.declared.code.Instr.TheVariants.{Push, Load, Neg, Inv, Not, Wrap, Binary, Ret}
+use Rattle.sk_columns.specs.Cells.{cell_of, made_by}
+use Rattle.sk_columns.specs.declared.combine.Action.{Action}
+use Rattle.sk_columns.specs.declared.level.Level.{Level}
+use Rattle.sk_columns.specs.declared.level.Level.TheVariants.{Here}
+
+-- the instructions of straight code
+abbrev pub is_straight : Instr → Bool
+is_straight (Push number) = true
+is_straight (Load slot) = true
+is_straight (Neg ty) = true
+is_straight (Inv ty) = true
+is_straight Not = true
+is_straight Wrap = true
+is_straight (Binary op ty) = true
+is_straight Ret = true
+is_straight instr = false
+
+-- slots with the numbers that are known of them
+abbrev pub Have : (known : ℕ → Option ℤ) → (slots : List ℤ) → Type 0
+Have known slots = (slot : ℕ) (number : ℤ) → known slot ≡ Some number → slice_get slots slot ≡ Some number
+
+abbrev pub point_of : (at : ℕ) → (stack slots : List ℤ) → (turns : ℕ) → Point
+point_of at stack slots turns = record { at = at; stack = stack; slots = slots; kept = turns }
+
+-- A run of the code ends with the number: whatever functions it may call, whatever its arguments and its turns, if it begins
+-- with slots of which this is known. It takes no turn.
+pub record Gives (instrs : List Instr) (known : ℕ → Option ℤ) (number : ℤ) : Type 0 where
+  pub ends : (routine : Routine) (slots : List ℤ) (turns : ℕ) → routine.instrs ≡ instrs → Have known slots
+      → (steps : ℕ) × (outcome_of routine steps (point_of 0 [] slots turns) ≡ Ended (Ok (number, turns)))
+
+-- the stack at a place of a block: the cells of so many levels there, the latest first
+abbrev pub stack_of : List Level → (rows : List ℤ) → (block place : ℕ) → (known : ℕ → Option ℤ) → (height : ℕ) → List ℤ
+stack_of levels rows block place known zero = []
+stack_of levels rows block place known (suc fewer) =
+    cell_of (slice_index_or levels fewer Here) rows (fewer * block + place) known ∷ stack_of levels rows block place known fewer
+
+-- an instruction leads from one stack to another, at the next address, whatever else there is
+pub record Leads (instr : Instr) (known : ℕ → Option ℤ) (before after : List ℤ) : Type 0 where
+  pub goes : (routine : Routine) (at : ℕ) (slots : List ℤ) (turns : ℕ) → Have known slots
+      → next_of routine instr (point_of at before slots turns) ≡ Goes (point_of (suc at) after slots turns)
+
+-- An instruction was done at all places of a block: it leads from the stack of so many levels at each place to that of
+-- another number of levels.
+pub record IsDone (instr : Instr) (known : ℕ → ℕ → Option ℤ) (block height : ℕ) (levels : List Level) (rows : List ℤ) (after : ℕ)
+    (levels_after : List Level) (rows_after : List ℤ) : Type 0 where
+  pub inside : after ≤ length levels_after
+  pub leads : (place : ℕ) → place < block
+      → Leads instr (known place) (stack_of levels rows block place (known place) height)
+      (stack_of levels_after rows_after block place (known place) after)
+
+-- an instruction puts what an action makes of the two topmost cells in their place
+pub record TakesTwo (instr : Instr) (action : Action) : Type 0 where
+  pub leads : (known : ℕ → Option ℤ) (a b value : ℤ) (rest : List ℤ) → made_by action a b ≡ Ok value
+      → Leads instr known (b ∷ a ∷ rest) (value ∷ rest)
+
+-- an instruction puts what an action makes of the topmost cell in its place
+pub record TakesOne (instr : Instr) (action : Action) : Type 0 where
+  pub leads : (known : ℕ → Option ℤ) (a value : ℤ) (rest : List ℤ) → made_by action a (pos 0) ≡ Ok value
+      → Leads instr known (a ∷ rest) (value ∷ rest)
+
+-- one more level stands on so many of them
+pub record IsPushed (level : Level) (height : ℕ) (levels : List Level) (after : ℕ) (levels_after : List Level) : Type 0 where
+  pub more : after ≡ suc height
+  pub room : height < length levels
+  pub levels_are : levels_after ≡ slice_set levels height level

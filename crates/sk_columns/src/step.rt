@@ -1,0 +1,156 @@
+//! What one instruction does for a block of places.
+ghost use Rattle.std.specs.Prelude.{◌≡◌, ℕ, ℤ, Some, Ok, IfSome, ◌<◌, ◌≤◌, ◌+◌, ◌-◌, ◌*◌, suc, length, pos, true, List, ◌∷◌, slice_set, slice_index_or};
+ghost use Rattle.sk_isa.specs.declared.code.Instr.{Instr as Instructions};
+ghost use Rattle.sk_columns.specs.Blocks.{IsDone, IsPushed, TakesOne, TakesTwo};
+ghost use Rattle.sk_columns.specs.Cells.{cell_of, made_by};
+
+use crate::combine::{Action, combine};
+use crate::lanes::Lanes;
+use crate::level::Level;
+use sk_base::Cell;
+use sk_isa::Instr;
+
+/// Executes an instruction for a block of places, with so many values on the stack, and gives how many there are then. It
+/// gives nothing where it cannot be done.
+pub fn step<L: Lanes>(
+    instr: &Instr,
+    lanes: &L,
+    block: usize,
+    height: usize,
+    levels: &mut [Level],
+    rows: &mut [Cell],
+) -> Option<usize>
+    requires lends { L.lends lanes.now }
+    requires inside { height ≤ length levels.old }
+    ensures { IfSome result (λ after. IsDone instr.now (L.known lanes.now) block height levels.old rows.old after levels.new rows.new) }
+{
+    match instr {
+        Instr::Push(number) => push(Level::Number(*number), height, levels),
+        Instr::Load(slot) => load(lanes, *slot, block, height, levels),
+        Instr::Binary(op, ty) => {
+            binary(Action::Binary(*op, *ty), lanes, block, height, levels, rows)
+        }
+        Instr::Neg(ty) => unary(Action::Negate(*ty), lanes, block, height, levels, rows),
+        Instr::Inv(_) => unary(Action::Invert, lanes, block, height, levels, rows),
+        Instr::Not => unary(Action::Deny, lanes, block, height, levels, rows),
+        Instr::Wrap => unary(Action::Wrap, lanes, block, height, levels, rows),
+        _ => None,
+    }
+}
+
+/// One more level, where there is room for it.
+fn push(level: Level, height: usize, levels: &mut [Level]) -> Option<usize>
+    ensures { IfSome result (λ after. IsPushed level height levels.old after levels.new) }
+{
+    if height >= levels.len() {
+        return None;
+    }
+    levels[height] = level;
+    Some(height + 1)
+}
+
+/// One more level: a slot, where its numbers are known at all places of the block.
+fn load<L: Lanes>(
+    lanes: &L,
+    slot: u32,
+    block: usize,
+    height: usize,
+    levels: &mut [Level],
+) -> Option<usize>
+    requires lends { L.lends lanes.now }
+    ensures { (rows : List ℤ) → IfSome result (λ after. IsDone (Instr.Load slot) (L.known lanes.now) block height levels.old rows after levels.new rows) }
+{
+    if let Some(number) = lanes.number(slot) {
+        return push(Level::Number(number), height, levels);
+    }
+    if lanes.column(slot).len() < block {
+        return None;
+    }
+    push(Level::Column(slot), height, levels)
+}
+
+/// One level in place of the two topmost ones.
+fn binary<L: Lanes>(
+    action: Action,
+    lanes: &L,
+    block: usize,
+    height: usize,
+    levels: &mut [Level],
+    rows: &mut [Cell],
+) -> Option<usize>
+    requires lends { L.lends lanes.now }
+    requires inside { height ≤ length levels.old }
+    ensures { (instr : Instructions) → TakesTwo instr action
+        → IfSome result (λ after. IsDone instr (L.known lanes.now) block height levels.old rows.old after levels.new rows.new) }
+{
+    if height < 2 {
+        return None;
+    }
+    let left = levels[height - 2];
+    let right = levels[height - 1];
+    if !combine_at(action, lanes, left, right, block, height - 2, rows) {
+        return None;
+    }
+    levels[height - 2] = Level::Here;
+    Some(height - 1)
+}
+
+/// Another level in place of the topmost one.
+fn unary<L: Lanes>(
+    action: Action,
+    lanes: &L,
+    block: usize,
+    height: usize,
+    levels: &mut [Level],
+    rows: &mut [Cell],
+) -> Option<usize>
+    requires lends { L.lends lanes.now }
+    requires inside { height ≤ length levels.old }
+    ensures { (instr : Instructions) → TakesOne instr action
+        → IfSome result (λ after. IsDone instr (L.known lanes.now) block height levels.old rows.old after levels.new rows.new) }
+{
+    if height < 1 {
+        return None;
+    }
+    let level = levels[height - 1];
+    if !combine_at(
+        action,
+        lanes,
+        level,
+        Level::Number(0),
+        block,
+        height - 1,
+        rows,
+    ) {
+        return None;
+    }
+    levels[height - 1] = Level::Here;
+    Some(height)
+}
+
+/// Puts what is made of two levels into the row of this number, which the left one has; the right one has the next.
+fn combine_at<L: Lanes>(
+    action: Action,
+    lanes: &L,
+    left: Level,
+    right: Level,
+    block: usize,
+    row: usize,
+    rows: &mut [Cell],
+) -> bool
+    requires lends { L.lends lanes.now }
+    ensures below { result ≡ true → (index : ℕ) → index < row * block → slice_index_or rows.new index (pos 0) ≡ slice_index_or rows.old index (pos 0) }
+    ensures here { result ≡ true → (place : ℕ) → place < block
+        → made_by action (cell_of left rows.old (row * block + place) (L.known lanes.now place)) (cell_of right rows.old (row * block + block + place) (L.known lanes.now place))
+        ≡ Ok (slice_index_or rows.new (row * block + place) (pos 0)) }
+{
+    let Some(base) = row.checked_mul(block) else {
+        return false;
+    };
+    if rows.len() < base || rows.len() - base < block {
+        return false;
+    }
+    let (_, from) = rows.split_at_mut(base);
+    let (to, above) = from.split_at_mut(block);
+    combine(action, lanes, left, right, to, above)
+}

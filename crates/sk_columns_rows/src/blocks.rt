@@ -1,0 +1,144 @@
+//! Codes evaluated over two columns.
+ghost use Rattle.std.specs.Prelude.{◌≡◌, ◌==◌, if◌then◌else◌, slice_get};
+
+use sk_base::{Cell, Op, Ty, binary};
+use sk_columns::{Lanes, Level, evaluate};
+use sk_isa::Instr;
+use std::alloc::{AllocError, Global};
+use std::process::Abort;
+
+/// Two slots with a column each.
+#[derive(Drop)]
+struct Columns<'a> {
+    left: &'a [Cell],
+    right: &'a [Cell],
+}
+
+impl<'a> Lanes for Columns<'a> {
+    ghost known = { λ columns place slot. slice_get (if slot == 0 then columns.left.now else columns.right.now) place };
+
+    ghost lends = { λ columns. Unit {0} };
+
+    fn number(&self, _slot: u32) -> Option<Cell> {
+        None
+    }
+
+    fn column(&self, slot: u32) -> &[Cell] {
+        if slot == 0 { self.left } else { self.right }
+    }
+}
+
+/// What a code gives for a block of two columns, where it is evaluated.
+pub fn evaluated(
+    alloc: Global,
+    code: &[Instr],
+    left: &[Cell],
+    right: &[Cell],
+) -> Result<Option<Vec<Cell>>, AllocError> {
+    let block = left.len();
+    let mut out = vec![in alloc; 0; block]?;
+    let mut levels = vec![in alloc; Level::Here; 3]?;
+    let Some(cells) = block.checked_mul(3) else {
+        return Ok(None);
+    };
+    let mut rows = vec![in alloc; 0; cells]?;
+    let columns = Columns { left, right };
+    if evaluate(code, &columns, &mut out, &mut levels, &mut rows) {
+        Ok(Some(out))
+    } else {
+        Ok(None)
+    }
+}
+
+/// The code of an operator.
+fn code_of(op: Op, ty: Ty) -> [Instr; 4] {
+    [
+        Instr::Load(0),
+        Instr::Load(1),
+        Instr::Binary(op, ty),
+        Instr::Ret,
+    ]
+}
+
+/// The one cell of a block of one place.
+fn single(found: Option<Vec<Cell>>) -> Option<Cell> {
+    found.and_then(|cells| cells.get(0).copied())
+}
+
+/// An operator on two ints is what it is at one place.
+pub fn expect_ints(
+    rt: &impl Abort,
+    alloc: Global,
+    op: Op,
+    a: i32,
+    b: i32,
+) -> Result<(), AllocError> {
+    let wanted = binary(op, Ty::Int, Cell::from(a), Cell::from(b)).ok();
+    let found = evaluated(
+        alloc,
+        &code_of(op, Ty::Int),
+        &[Cell::from(a)],
+        &[Cell::from(b)],
+    )?;
+    assert_eq!(rt; single(found), wanted, "{op:?} at int on {a} and {b}");
+    Ok(())
+}
+
+/// An operator on two longs is what it is at one place.
+pub fn expect_longs(
+    rt: &impl Abort,
+    alloc: Global,
+    op: Op,
+    a: i64,
+    b: i64,
+) -> Result<(), AllocError> {
+    let wanted = binary(op, Ty::Long, a, b).ok();
+    let found = evaluated(alloc, &code_of(op, Ty::Long), &[a], &[b])?;
+    assert_eq!(rt; single(found), wanted, "{op:?} at long on {a} and {b}");
+    Ok(())
+}
+
+/// The numbers of so many places.
+fn numbers(alloc: Global, length: u32) -> Result<Vec<Cell>, AllocError> {
+    let mut numbers = Vec::new(alloc);
+    for k in 0..length {
+        numbers.push(Cell::from(k))?;
+    }
+    Ok(numbers)
+}
+
+/// `(a + b) / 2` of a number with itself is the number.
+pub fn expect_length(rt: &impl Abort, alloc: Global, length: u32) -> Result<(), AllocError> {
+    let code = [
+        Instr::Load(0),
+        Instr::Load(1),
+        Instr::Binary(Op::Add, Ty::Int),
+        Instr::Push(2),
+        Instr::Binary(Op::Div, Ty::Int),
+        Instr::Ret,
+    ];
+    let numbers = numbers(alloc, length)?;
+    let found = evaluated(alloc, &code, &numbers, &numbers)?;
+    match found {
+        Some(cells) => assert_eq!(rt; cells.as_slice(), numbers.as_slice(), "length {length}"),
+        None => assert!(rt; false, "length {length}"),
+    }
+    Ok(())
+}
+
+/// A quotient is not evaluated for a block where the divisor at a place is 0.
+pub fn expect_dividing(
+    rt: &impl Abort,
+    alloc: Global,
+    length: usize,
+    place: usize,
+) -> Result<(), AllocError> {
+    let left = vec![in alloc; 6; length]?;
+    let mut right = vec![in alloc; 3; length]?;
+    if place < right.len() {
+        right[place] = 0;
+    }
+    let found = evaluated(alloc, &code_of(Op::Div, Ty::Int), &left, &right)?;
+    assert!(rt; found.is_none(), "divisor 0 at {place}");
+    Ok(())
+}

@@ -2,11 +2,14 @@
 ghost use Rattle.std.specs.Prelude.{◌≡◌, ◌≢◌, ℕ, ◌+◌, ◌-◌, ◌<◌, ◌≤◌, [], min, length, slice_index, Some, None, IfSome, IsSome, IfOk, IsOk, OnOk, OnErr, IsTrue, ◌↔◌, option_map};
 ghost use Rattle.sk_spaces.specs.Blocks.{Reaches, written};
 ghost use Rattle.sk_spaces.specs.Spaces.{Stays, OnlyNotes, Changes, block_at};
-ghost use Rattle.sk_coherence.specs.Copies.{ReachesIn, OwnsAlone, store_in};
-ghost use Rattle.sk_coherence.specs.Stores.{UsesWrite, changes_in, opened};
-ghost use Rattle.sk_coherence.specs.Directory.{DirectoryView, IsSound, copy_at, store_at, cells_of_copy};
-ghost use Rattle.sk_coherence.specs.Writes.{WritesCopy};
-ghost use Rattle.sk_coherence.specs.Traced.{IsLike, TracesWrite, TracesStep, Opens};
+ghost use Rattle.sk_copy_states.specs.Copies.{ReachesIn, OwnsAlone, store_in};
+ghost use Rattle.sk_copy_states.specs.Stores.{UsesWrite, changes_in, opened};
+ghost use Rattle.sk_coherence_laws.specs.Directory.{DirectoryView, IsSound, copy_at, store_at, cells_of_copy};
+ghost use Rattle.sk_coherence_laws.specs.Writes.{WritesCopy};
+ghost use Rattle.sk_coherence_laws.specs.Traced.{IsLike, TracesWrite, TracesStep, Opens};
+ghost use Rattle.sk_spaces.specs.declared.step.Step.{Step};
+ghost use Rattle.sk_coherence.specs.Evicts.{IsOnHost};
+ghost use Rattle.sk_coherence.specs.Named.{SaysWrite};
 ghost use Rattle.sk_spaces.specs.Machine.{Machine};
 
 mod acquire;
@@ -16,13 +19,14 @@ mod evict;
 mod fill;
 mod moves;
 mod rebind;
+mod room;
 
-use crate::copies::{own_alone, unpin};
-use crate::held::Held;
-use crate::store::Store;
-use crate::stores::{insert, use_write};
 use sk_base::{Cell, Range, Shape, Ty};
 use sk_copies::{CopyId, StoreId};
+use sk_copy_states::copies::{own_alone, unpin};
+use sk_copy_states::held::Held;
+use sk_copy_states::store::Store;
+use sk_copy_states::stores::{insert, use_write};
 use sk_spaces::{Block, Journal, Memory, Spaces, Step};
 use std::alloc::Global;
 use std::collections::BTreeMap;
@@ -42,7 +46,7 @@ pub struct Directory<J: Journal> {
 }
 
 impl<J: Journal> Model for Directory<J> {
-    ghost use Rattle.sk_coherence.specs.Directory.{DirectoryView, IsSound};
+    ghost use Rattle.sk_coherence_laws.specs.Directory.{DirectoryView, IsSound};
 
     ghost Value = { DirectoryView };
 
@@ -244,6 +248,8 @@ impl<J: Journal> Directory<J> {
         ensures ready { self.new.ready + 1 ≡ self.old.ready }
         ensures next { self.new.next ≡ self.old.next }
         ensures traced { TracesWrite self.old self.new copy.id range.lo range.hi cells.now }
+        ensures legal { (step : Step) → self.old.named ≡ Some step → IsOnHost (copy_at self.old copy.id) →
+            SaysWrite self.old copy.id range.lo range.hi cells.now step → TracesStep self.old self.new step }
     {
         let Some(held) = self.copies.get(&copy.id) else {
             return;

@@ -1,23 +1,27 @@
 //! Copies that are acquired.
-ghost use Rattle.std.specs.Prelude.{◌≡◌, ◌≢◌, ℕ, ◌+◌, ◌<◌, ◌≤◌, Some, None, IfSome, IsSome, IfOk, IfErr, OnOk, OnErr};
-ghost use Rattle.sk_coherence.specs.Copies.{home_in, store_in, state_in};
-ghost use Rattle.sk_coherence.specs.Directory.{copy_at, store_at};
-ghost use Rattle.sk_coherence.specs.Stores.{IsBlockOf};
-ghost use Rattle.sk_coherence.specs.Sources.{MayRead, IsOwned};
-ghost use Rattle.sk_coherence.specs.Serves.{Serves};
-ghost use Rattle.sk_coherence.specs.Steps.{Traces, IsAlloc, IsServing};
-ghost use Rattle.sk_coherence.specs.Moves.{Idles};
-ghost use Rattle.sk_coherence.specs.Owes.{OwesWrite, AcquiresWrite};
-ghost use Rattle.sk_coherence.specs.Acquires.{PinsOne, Acquires, IsRoomFault};
-ghost use Rattle.sk_coherence.specs.Traced.{IsLike};
+ghost use Rattle.std.specs.Prelude.{◌≡◌, ◌≢◌, ℕ, ◌+◌, ◌-◌, ◌<◌, ◌≤◌, Some, None, IfSome, IsSome, IfOk, IfErr, OnOk, OnErr};
+ghost use Rattle.sk_copy_states.specs.Copies.{home_in, store_in, state_in};
+ghost use Rattle.sk_coherence_laws.specs.Directory.{copy_at, store_at};
+ghost use Rattle.sk_copy_states.specs.Stores.{IsBlockOf};
+ghost use Rattle.sk_copy_states.specs.Sources.{MayRead};
+ghost use Rattle.sk_coherence_laws.specs.Owned.{IsOwned};
+ghost use Rattle.sk_coherence_laws.specs.Serves.{Serves};
+ghost use Rattle.sk_coherence_laws.specs.Steps.{Traces, IsAlloc, IsServing, IsDue};
+ghost use Rattle.sk_coherence_laws.specs.Moves.{Idles};
+ghost use Rattle.sk_coherence_laws.specs.Owes.{OwesWrite, AcquiresWrite};
+ghost use Rattle.sk_coherence_laws.specs.Acquires.{PinsOne, Acquires, IsRoomFault};
+ghost use Rattle.sk_coherence_laws.specs.Traced.{IsLike};
 ghost use Rattle.sk_spaces.specs.Machine.{Machine};
+ghost use Rattle.sk_coherence.specs.Room.{IsShort, IsAcquireFault, IsEarly};
 
-use crate::copies::{pin, reserve_listed};
 use crate::directory::Directory;
-use crate::entries::Place;
-use crate::stores::expect_write;
+use crate::faults::AcquireFault;
 use sk_base::Range;
 use sk_copies::{CopyId, StoreId};
+use sk_copy_states::copies::{pin, reserve_listed};
+use sk_copy_states::entries::Place;
+use sk_copy_states::stores::expect_write;
+use sk_parts::Chooser;
 use sk_spaces::{Journal, Memory, SpaceFault};
 use std::alloc::Global;
 
@@ -60,6 +64,46 @@ impl<J: Journal> Directory<J> {
         self.fill_needed(alloc, copy, need)?;
         self.pin(copy)?;
         Ok(copy)
+    }
+
+    /// The copy with exactly this block in a space, pinned once more, which may be read where it is needed. It is made where there
+    /// is none; on a rank other copies that are not pinned go for it, as the chooser picks, while there is too little room.
+    pub fn acquire_read<C: Chooser>(
+        &mut self,
+        alloc: Global,
+        store: StoreId,
+        space: u32,
+        block: Range,
+        need: Range,
+        chooser: &mut C,
+    ) -> Result<CopyId, AcquireFault>
+        requires there { IsSome (store_at self.old store.id) }
+        requires block { IfSome (store_at self.old store.id) (IsBlockOf block.lo block.hi) }
+        requires ranks { space ≤ self.old.spaces.memories.ranks }
+        requires above { block.lo ≤ need.lo }
+        requires below { need.hi ≤ block.hi }
+        requires owned { (i : ℕ) → need.lo ≤ i → i < need.hi → IsOwned self.old store.id i }
+        ensures ok { IfOk result (λ copy. Acquires self.old self.new copy.id) }
+        ensures home { IfOk result (λ copy. home_in (copy_at self.new copy.id)
+            ≡ Some (record { store = store.id; space = space; lo = block.lo; hi = block.hi })) }
+        ensures readable { IfOk result (λ copy. MayRead (copy_at self.new copy.id) need.lo need.hi) }
+        ensures fault { IfErr result (IsAcquireFault self.old store.id space block.lo block.hi) }
+        ensures early { IfErr result (IsEarly self.old self.new) }
+        ensures short { OnOk result (IsShort self.old store.id space block.lo block.hi → ⊥) }
+        ensures err { OnErr result (Serves self.old self.new) }
+        ensures traced { Traces (IsDue self.old.spaces.memories.capacity space (block.hi - block.lo)) self.old self.new }
+    {
+        self.is_sound();
+        let place = Place {
+            store: store.id,
+            space,
+            block,
+        };
+        self.find_room(alloc, place, chooser)?;
+        match self.acquire_here(alloc, place, need) {
+            Ok(copy) => Ok(copy),
+            Err(_) => Err(AcquireFault::Memory),
+        }
     }
 
     /// Pins a copy, and makes room for one write of its store, and for cells anew that may go before it: in the states of each of
@@ -108,5 +152,41 @@ impl<J: Journal> Directory<J> {
         self.reserve(alloc, 2)?;
         self.owe_write(store, copy)?;
         Ok(copy)
+    }
+
+    /// The copy with exactly this block in a space, pinned once more, with room for one write of it, for cells anew that may go
+    /// before it, and for one `unpin`. It is made where there is none, and nothing is filled; on a rank other copies that are not
+    /// pinned go for it, as the chooser picks, while there is too little room.
+    pub fn acquire_write<C: Chooser>(
+        &mut self,
+        alloc: Global,
+        store: StoreId,
+        space: u32,
+        block: Range,
+        chooser: &mut C,
+    ) -> Result<CopyId, AcquireFault>
+        requires there { IsSome (store_at self.old store.id) }
+        requires block { IfSome (store_at self.old store.id) (IsBlockOf block.lo block.hi) }
+        requires ranks { space ≤ self.old.spaces.memories.ranks }
+        ensures ok { IfOk result (λ copy. AcquiresWrite self.old self.new store.id copy.id) }
+        ensures home { IfOk result (λ copy. home_in (copy_at self.new copy.id)
+            ≡ Some (record { store = store.id; space = space; lo = block.lo; hi = block.hi })) }
+        ensures fault { IfErr result (IsAcquireFault self.old store.id space block.lo block.hi) }
+        ensures early { IfErr result (IsEarly self.old self.new) }
+        ensures short { OnOk result (IsShort self.old store.id space block.lo block.hi → ⊥) }
+        ensures err { OnErr result (Serves self.old self.new) }
+        ensures traced { Traces (IsDue self.old.spaces.memories.capacity space (block.hi - block.lo)) self.old self.new }
+    {
+        self.is_sound();
+        let place = Place {
+            store: store.id,
+            space,
+            block,
+        };
+        self.find_room(alloc, place, chooser)?;
+        match self.acquire_write_here(alloc, place) {
+            Ok(copy) => Ok(copy),
+            Err(_) => Err(AcquireFault::Memory),
+        }
     }
 }

@@ -2,19 +2,19 @@
 ghost use Rattle.std.specs.Prelude.{◌≡◌, ◌≢◌, ℕ, ◌+◌, ◌-◌, ◌<◌, ◌≤◌, Some, None, IfSome, IsSome, IfOk, IfErr, IsErr, OnOk, OnErr};
 ghost use Rattle.sk_spaces.specs.Memories.{LacksRoom};
 ghost use Rattle.sk_spaces.specs.Spaces.{NotesStep, IsSpaceFault};
-ghost use Rattle.sk_coherence.specs.Directory.{copy_at, store_at};
-ghost use Rattle.sk_coherence.specs.Stores.{IsBlockOf};
-ghost use Rattle.sk_coherence.specs.Moves.{Idles};
-ghost use Rattle.sk_coherence.specs.Traced.{TracesStep};
-ghost use Rattle.sk_coherence.specs.Adds.{AddsSome};
-ghost use Rattle.sk_coherence.specs.Copies.{home_in};
-ghost use Rattle.sk_coherence.specs.HostBlocks.{HasBlock};
-ghost use Rattle.sk_coherence.specs.Serves.{Serves, GrowsAt};
-ghost use Rattle.sk_coherence.specs.Steps.{Traces, IsAlloc};
+ghost use Rattle.sk_coherence_laws.specs.Directory.{copy_at, store_at};
+ghost use Rattle.sk_copy_states.specs.Stores.{IsBlockOf};
+ghost use Rattle.sk_coherence_laws.specs.Moves.{Idles};
+ghost use Rattle.sk_coherence_laws.specs.Traced.{TracesStep};
+ghost use Rattle.sk_coherence_laws.specs.Adds.{AddsSome, Places};
+ghost use Rattle.sk_copy_states.specs.Copies.{home_in};
+ghost use Rattle.sk_coherence_laws.specs.HostBlocks.{HasBlock};
+ghost use Rattle.sk_coherence_laws.specs.Serves.{Serves, GrowsAt};
+ghost use Rattle.sk_coherence_laws.specs.Steps.{Traces, IsAlloc};
 
 use crate::directory::Directory;
-use crate::entries::{Place, enter, leave};
 use sk_copies::{CopyId, StoreId};
+use sk_copy_states::entries::{Place, enter, leave};
 use sk_spaces::{Journal, SpaceFault, Step};
 use std::alloc::Global;
 
@@ -66,6 +66,7 @@ impl<J: Journal> Directory<J> {
         ensures traced { Traces (IsAlloc place.store place.space place.block.lo place.block.hi) self.old self.new }
         ensures fault { IfErr result (λ fault. IsSpaceFault self.old.spaces place.space
             place.block.lo place.block.hi fault) }
+        ensures places { Places self.old self.new place.space }
         ensures absent { IsErr result → HasBlock self.old place.store place.space place.block.lo place.block.hi → ⊥ }
     {
         self.is_sound();

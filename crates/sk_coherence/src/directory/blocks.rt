@@ -1,14 +1,14 @@
 //! Which blocks there are, and the host's block of an index.
 ghost use Rattle.std.specs.Prelude.{◌≡◌, ℕ, ◌+◌, ◌*◌, ◌/◌, ◌<◌, ◌≤◌, ◌^◌, min, Some, IfSome, IfNone, IsSome, IsTrue, ◌↔◌};
 ghost use Rattle.sk_base.specs.Shape.{cells_of};
-ghost use Rattle.sk_coherence.specs.Copies.{home_in};
-ghost use Rattle.sk_coherence.specs.Directory.{copy_at, store_at};
-ghost use Rattle.sk_coherence.specs.HostBlocks.{HasBlock, IsHostBlock};
+ghost use Rattle.sk_copy_states.specs.Copies.{home_in};
+ghost use Rattle.sk_coherence_laws.specs.Directory.{copy_at, store_at};
+ghost use Rattle.sk_coherence_laws.specs.HostBlocks.{HasBlock, IsHostBlock};
 
-use crate::copies;
 use crate::directory::Directory;
 use sk_base::Range;
 use sk_copies::{CopyId, StoreId};
+use sk_copy_states::copies;
 use sk_spaces::Journal;
 
 impl<J: Journal> Directory<J> {
@@ -39,8 +39,11 @@ impl<J: Journal> Directory<J> {
     pub fn host_block(&self, store: StoreId, index: u32) -> Range
         requires there { IsSome (store_at self.now store.id) }
         requires inside { IfSome (store_at self.now store.id) (λ s. index < cells_of s.shape) }
-        ensures { IfSome (store_at self.now store.id) (λ s.
+        ensures block { IfSome (store_at self.now store.id) (λ s.
             IsHostBlock self.now store.id s index result.lo result.hi) }
+        ensures above { result.lo ≤ index }
+        ensures below { index < result.hi }
+        ensures within { IfSome (store_at self.now store.id) (λ s. result.hi ≤ cells_of s.shape) }
     {
         let Some(listed) = self.stores.get(&store.id) else {
             return Range { lo: 0, hi: 0 };
@@ -68,6 +71,9 @@ fn tile_of(index: u32, tile: u32, cells: u32) -> Range
     requires inside { index < cells }
     ensures lo { result.lo ≡ index / tile * tile }
     ensures hi { result.hi ≡ min (result.lo + tile) cells }
+    ensures above { result.lo ≤ index }
+    ensures below { index < result.hi }
+    ensures within { result.hi ≤ cells }
 {
     let lo = index / tile * tile;
     Range {

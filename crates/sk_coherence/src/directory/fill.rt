@@ -1,17 +1,18 @@
 //! Stale indices that are filled.
 ghost use Rattle.std.specs.Prelude.{◌≡◌, ◌≢◌, ℕ, ◌+◌, ◌<◌, ◌≤◌, None, Some, IfSome, IfNone, IsSome, IfOk, OnOk, OnErr};
-ghost use Rattle.sk_coherence.specs.Copies.{ReachesIn, state_in};
-ghost use Rattle.sk_coherence.specs.Directory.{copy_at};
-ghost use Rattle.sk_coherence.specs.Moves.{CanMove, IsStaleAt};
-ghost use Rattle.sk_coherence.specs.Sources.{MayRead, HasOwnerAt};
-ghost use Rattle.sk_coherence.specs.Serves.{Serves, GrowsAt};
-ghost use Rattle.sk_coherence.specs.Steps.{Traces, IsFill};
+ghost use Rattle.sk_copy_states.specs.Copies.{ReachesIn, state_in};
+ghost use Rattle.sk_coherence_laws.specs.Directory.{copy_at};
+ghost use Rattle.sk_coherence_laws.specs.Moves.{CanMove, IsStaleAt};
+ghost use Rattle.sk_copy_states.specs.Sources.{MayRead};
+ghost use Rattle.sk_coherence_laws.specs.Owned.{HasOwnerAt};
+ghost use Rattle.sk_coherence_laws.specs.Serves.{Serves, GrowsAt};
+ghost use Rattle.sk_coherence_laws.specs.Steps.{Traces, IsFill};
 
 use crate::directory::Directory;
-use crate::held::missing_in;
-use crate::sources::best;
 use sk_base::Range;
 use sk_copies::{CopyId, Transfer};
+use sk_copy_states::held::missing_in;
+use sk_copy_states::sources::best;
 use sk_spaces::{Journal, Memory};
 use std::alloc::Global;
 

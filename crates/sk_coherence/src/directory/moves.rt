@@ -2,14 +2,14 @@
 ghost use Rattle.std.specs.Prelude.{◌≡◌, ℕ, ◌+◌, ◌<◌, ◌≤◌, None, Some, IfSome, IsSome, IfOk, OnOk, OnErr};
 ghost use Rattle.sk_spaces.specs.Blocks.{Reaches, copied};
 ghost use Rattle.sk_spaces.specs.Spaces.{Changes, block_at};
-ghost use Rattle.sk_coherence.specs.Stores.{changes_in};
-ghost use Rattle.sk_coherence.specs.Directory.{copy_at, store_at};
-ghost use Rattle.sk_coherence.specs.Moves.{CanMove, IsStaleAt, OwnsAt, Fills, HandsBack, Idles};
-ghost use Rattle.sk_coherence.specs.Traced.{TracesStep};
+ghost use Rattle.sk_copy_states.specs.Stores.{changes_in};
+ghost use Rattle.sk_coherence_laws.specs.Directory.{copy_at, store_at};
+ghost use Rattle.sk_coherence_laws.specs.Moves.{CanMove, IsStaleAt, OwnsAt, Fills, HandsBack, Idles};
+ghost use Rattle.sk_coherence_laws.specs.Traced.{TracesStep};
 
-use crate::copies::{hand_over, reserve_one, set_one};
 use crate::directory::Directory;
 use sk_copies::{CopyId, Transfer};
+use sk_copy_states::copies::{hand_over, reserve_one, set_one};
 use sk_ranges::State;
 use sk_spaces::{Block, Journal, Memory, Spaces, Step};
 use std::alloc::Global;

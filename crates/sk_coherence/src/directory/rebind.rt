@@ -1,15 +1,15 @@
 //! Cells that are written anew.
 ghost use Rattle.std.specs.Prelude.{◌≡◌, ◌≢◌, ℕ, ◌+◌, ◌<◌, IfSome, IsSome};
-ghost use Rattle.sk_coherence.specs.Stores.{changes_in, len_in};
-ghost use Rattle.sk_coherence.specs.Directory.{store_at};
-ghost use Rattle.sk_coherence.specs.Rebinds.{Rebinds};
-ghost use Rattle.sk_coherence.specs.Traced.{TracesStep};
+ghost use Rattle.sk_copy_states.specs.Stores.{changes_in, len_in};
+ghost use Rattle.sk_coherence_laws.specs.Directory.{store_at};
+ghost use Rattle.sk_coherence_laws.specs.Rebinds.{Rebinds};
+ghost use Rattle.sk_coherence_laws.specs.Traced.{TracesStep};
 
-use crate::copies::stale_all;
 use crate::directory::{Directory, note_ready};
-use crate::stores::rebind;
 use sk_base::Range;
 use sk_copies::StoreId;
+use sk_copy_states::copies::stale_all;
+use sk_copy_states::stores::rebind;
 use sk_spaces::{Journal, Step};
 
 impl<J: Journal> Directory<J> {

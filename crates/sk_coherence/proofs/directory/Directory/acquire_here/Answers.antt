@@ -1,10 +1,9 @@
-use Rattle.std.proofs.Common.{◌≡◌, ℕ, ◌+◌, ◌<◌, ◌≤◌, Option, Some, None, IfSome, IsSome, arith, rules, refl, sym, subst, ap, ◌∙◌}
-use Rattle.sk_coherence.specs.Directory.{DirectoryView, copy_at}
-use Rattle.sk_coherence.specs.Serves.{Serves}
-use Rattle.sk_coherence.specs.Acquires.{IsRoomFault}
-use Rattle.sk_coherence.proofs.NamedMoves.{on_err_any, if_err_of}
-use Rattle.sk_coherence.proofs.ServesLemmas.{serves-trans}
-use Rattle.sk_coherence.proofs.AcquireLemmas.{home_there, reaches_home, owned-on, fault-room, traces-place, traces-filled, traces-pinned, home-pinned, read-pinned, serves-unpinned}
+use Rattle.std.proofs.Common.{rules, refl, ◌∙◌}
+use Rattle.sk_coherence_laws.specs.Directory.{copy_at}
+use Rattle.sk_coherence_laws.specs.Acquires.{IsRoomFault}
+use Rattle.sk_coherence_laws.proofs.NamedMoves.{on_err_any, if_err_of}
+use Rattle.sk_coherence_laws.proofs.ServesLemmas.{serves-trans}
+use Rattle.sk_coherence_laws.proofs.AcquireLemmas.{home_there, reaches_home, owned-on, fault-room, traces-place, traces-filled, traces-pinned, home-pinned, read-pinned, serves-unpinned}
 use Rattle.sk_coherence.proofs.directory.Directory.acquire_here.Goals as goal
 
 pub fill_needed-requires-clause-there : goal.fill_needed-requires-clause-there

@@ -1,13 +1,12 @@
-use Rattle.std.proofs.Common.{◌≡◌, ℕ, ◌+◌, ◌<◌, ◌≤◌, Option, Some, None, IfSome, IsSome, arith, rules, refl, sym, subst, ap, ◌∙◌}
-use Rattle.sk_coherence.specs.Copies.{home_in}
-use Rattle.sk_coherence.specs.Directory.{DirectoryView, copy_at, store_at}
-use Rattle.sk_coherence.specs.Moves.{Idles}
-use Rattle.sk_coherence.specs.Serves.{Serves}
-use Rattle.sk_coherence.specs.Acquires.{IsRoomFault}
-use Rattle.sk_coherence.proofs.NamedMoves.{on_err_any, if_err_of}
-use Rattle.sk_coherence.proofs.ServesLemmas.{serves-trans, serves-idle, idle-reserve}
-use Rattle.sk_coherence.proofs.FillSums.{idle-trans}
-use Rattle.sk_coherence.proofs.AcquireLemmas.{home_there, fault-room, store-stays, traces-owed, traces-idled}
+use Rattle.std.proofs.Common.{IsSome, rules, refl, sym, subst, ap, ◌∙◌}
+use Rattle.sk_copy_states.specs.Copies.{home_in}
+use Rattle.sk_coherence_laws.specs.Directory.{DirectoryView, copy_at, store_at}
+use Rattle.sk_coherence_laws.specs.Moves.{Idles}
+use Rattle.sk_coherence_laws.specs.Acquires.{IsRoomFault}
+use Rattle.sk_coherence_laws.proofs.NamedMoves.{on_err_any, if_err_of}
+use Rattle.sk_coherence_laws.proofs.ServesLemmas.{serves-trans, serves-idle, idle-reserve}
+use Rattle.sk_coherence_laws.proofs.FillSums.{idle-trans}
+use Rattle.sk_coherence_laws.proofs.AcquireLemmas.{home_there, fault-room, store-stays, traces-owed, traces-idled}
 use Rattle.sk_coherence.proofs.directory.Directory.acquire_write_here.Goals as goal
 
 pub owe_write-requires-clause-there : goal.owe_write-requires-clause-there

@@ -1,16 +1,15 @@
-use Rattle.std.proofs.Common.{◌≡◌, ℕ, ◌+◌, ◌-◌, ◌<◌, ◌≤◌, List, Option, Some, None, IfSome, IsSome, arith, rules, refl, sym, subst, ap, ◌∙◌}
-use Rattle.sk_spaces.specs.Machine.{Machine}
+use Rattle.std.proofs.Common.{◌≡◌, ℕ, ◌+◌, ◌-◌, ◌≤◌, Option, None, IfSome, IsSome, arith, refl, sym, subst, ◌∙◌}
 use Rattle.sk_spaces.specs.Memories.{AddsBlock, fresh_block}
-use Rattle.sk_coherence.specs.declared.held.Held.{Held}
-use Rattle.sk_coherence.specs.Copies.{KeepsStates}
-use Rattle.sk_coherence.specs.Stores.{StoreView, IsBlockOf}
-use Rattle.sk_coherence.specs.Directory.{DirectoryView, copy_at, store_at, IsSound}
-use Rattle.sk_coherence.specs.Adds.{Enters}
-use Rattle.sk_coherence.specs.Traced.{IsLike, TracesStep}
-use Rattle.sk_coherence.proofs.KeptLemmas.{sound-kept, keeps_same}
-use Rattle.sk_coherence.specs.Moves.{Idles}
-use Rattle.sk_coherence.proofs.AddLemmas.{idle_at, take_store, if_some, adds_of, legal-add, sound-add, like-added, copies_undone, stores_undone}
-use Rattle.sk_coherence.proofs.NamedMoves.{on_err_any}
+use Rattle.sk_copy_states.specs.declared.held.Held.{Held}
+use Rattle.sk_copy_states.specs.Copies.{KeepsStates}
+use Rattle.sk_copy_states.specs.Stores.{IsBlockOf}
+use Rattle.sk_coherence_laws.specs.Directory.{DirectoryView, copy_at, store_at}
+use Rattle.sk_copy_states.specs.Entries.{Enters}
+use Rattle.sk_coherence_laws.specs.Traced.{IsLike}
+use Rattle.sk_coherence_laws.proofs.KeptLemmas.{sound-kept, keeps_same}
+use Rattle.sk_coherence_laws.specs.Moves.{Idles}
+use Rattle.sk_coherence_laws.proofs.AddLemmas.{idle_at, take_store, if_some, adds_of, legal-add, sound-add, like-added, copies_undone, stores_undone}
+use Rattle.sk_coherence_laws.proofs.NamedMoves.{on_err_any}
 use Rattle.sk_coherence.proofs.directory.Directory.add_copy.Goals as goal
 
 pub invariant_of-self : goal.invariant_of-self
@@ -35,7 +34,7 @@ invariant_of-self-in-Ok g c =
     let adds : AddsBlock d.spaces.memories n.spaces.memories c.next-id.result (fresh_block p.store p.space p.block.lo p.block.hi)
     = subst (λ (x : ℕ). AddsBlock d.spaces.memories n.spaces.memories x (fresh_block p.store p.space p.block.lo p.block.hi)) (made.memories.number ∙ sym c.next-id.ensures) made.memories in
     let a = adds_of d n c.next-id.result p.store p.space p.block.lo p.block.hi st.0 st.1 enters adds refl in
-    sound-add d n c.next-id.result p.store p.space p.block.lo p.block.hi st.0 a.0 c.self.invariant a.1 (omega (arith, block.some)) (omega (arith, more))
+    sound-add d n c.next-id.result p.store p.space p.block.lo p.block.hi st.0 a.0 c.self.invariant a.1 block (omega (arith, more))
     (omega (arith, more, c.self.invariant.ready, made.noted.spare))
 
 pub invariant_of-self-in-Err : goal.invariant_of-self-in-Err

@@ -1,15 +1,16 @@
-use Rattle.std.proofs.Common.{◌≡◌, ◌≢◌, ℕ, ◌+◌, ◌-◌, ◌<◌, ◌≤◌, Option, Some, None, IfSome, IsSome, arith, rules, refl, sym, subst, ap, ◌∙◌}
+use Rattle.std.proofs.Common.{◌≡◌, ◌+◌, ◌-◌, ◌≤◌, Option, IfSome, arith, refl, sym, subst, ◌∙◌}
 use Rattle.sk_ranges.specs.declared.state.State.TheVariants.{Valid}
 use Rattle.sk_spaces.specs.declared.step.Step.TheVariants.{Copy}
-use Rattle.sk_coherence.specs.declared.held.Held.{Held}
-use Rattle.sk_coherence.specs.Copies.{SetsAt, KeepsStates, held_in}
-use Rattle.sk_coherence.specs.Stores.{changes_in}
-use Rattle.sk_coherence.specs.Directory.{DirectoryView, copy_at, store_at, IsSound}
-use Rattle.sk_coherence.specs.Moves.{CanMove, Fills, IsStaleAt}
-use Rattle.sk_coherence.specs.Traced.{TracesStep}
-use Rattle.sk_coherence.proofs.KeptLemmas.{sound-kept, keeps_same}
-use Rattle.sk_coherence.proofs.NamedMoves.{room_left, sets_after}
-use Rattle.sk_coherence.proofs.FillSteps.{values, sound-fill, traced-fill}
+use Rattle.sk_spaces.proofs.CopyLemmas.{taken-copied}
+use Rattle.sk_copy_states.specs.declared.held.Held.{Held}
+use Rattle.sk_copy_states.specs.Copies.{SetsAt, KeepsStates, held_in}
+use Rattle.sk_copy_states.specs.Stores.{changes_in}
+use Rattle.sk_coherence_laws.specs.Directory.{DirectoryView, copy_at, store_at, cells_of_copy}
+use Rattle.sk_coherence_laws.specs.Moves.{CanMove, Fills, IsStaleAt}
+use Rattle.sk_coherence_laws.specs.Traced.{TracesStep}
+use Rattle.sk_coherence_laws.proofs.KeptLemmas.{sound-kept, keeps_same}
+use Rattle.sk_coherence_laws.proofs.NamedMoves.{room_left, sets_after}
+use Rattle.sk_coherence_laws.proofs.FillSteps.{values, sound-fill, traced-fill}
 use Rattle.sk_coherence.proofs.directory.Directory.fill.Goals as goal
 
 pub invariant_of-self : goal.invariant_of-self
@@ -65,6 +66,7 @@ returns-clause-ok g c =
         next_copy = c.move_as.ensures.memories.next;
         ranks = c.move_as.ensures.memories.ranks;
         capacity = c.move_as.ensures.memories.capacity;
+        used = λ space. omega (arith, c.move_as.ensures.memories.used space, taken-copied (cells_of_copy d t.from.id) (cells_of_copy d t.to.id) space t.range.lo t.range.hi);
         noted = c.move_as.ensures.noted;
       };
     })

@@ -1,11 +1,11 @@
-use Rattle.std.proofs.Common.{◌≡◌, ℕ, ◌+◌, ◌<◌, ◌≤◌, Option, Some, None, IfSome, arith, refl, sym, subst, ap, ◌∙◌}
-use Rattle.sk_coherence.specs.Directory.{copy_at}
-use Rattle.sk_coherence.specs.Sources.{MayRead}
-use Rattle.sk_coherence.specs.Steps.{IsFill}
-use Rattle.sk_coherence.proofs.AddLemmas.{if_some}
-use Rattle.sk_coherence.proofs.ServesLemmas.{serves-trans, grows-trans}
-use Rattle.sk_coherence.proofs.TracesLemmas.{traces-trans}
-use Rattle.sk_coherence.proofs.FillSums.{owner-carried, read-more}
+use Rattle.std.proofs.Common.{◌<◌, ◌≤◌, arith}
+use Rattle.sk_coherence_laws.specs.Directory.{copy_at}
+use Rattle.sk_copy_states.specs.Sources.{MayRead}
+use Rattle.sk_coherence_laws.specs.Steps.{IsFill}
+use Rattle.sk_coherence_laws.proofs.AddLemmas.{if_some}
+use Rattle.sk_coherence_laws.proofs.ServesLemmas.{serves-trans, grows-trans}
+use Rattle.sk_coherence_laws.proofs.TracesLemmas.{traces-trans}
+use Rattle.sk_coherence_laws.proofs.FillSums.{owner-carried, read-more}
 use Rattle.sk_coherence.proofs.directory.Directory.fill_needed.Goals as goal
 
 pub fill_next-requires-clause-owned : goal.fill_next-requires-clause-owned

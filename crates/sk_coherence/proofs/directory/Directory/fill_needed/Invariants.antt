@@ -1,8 +1,8 @@
-use Rattle.std.proofs.Common.{◌≡◌, ℕ, ◌-◌, ◌<◌, ◌≤◌}
-use Rattle.sk_coherence.specs.Directory.{IsSound, copy_at}
-use Rattle.sk_coherence.specs.Sources.{MayRead}
-use Rattle.sk_coherence.specs.Serves.{Serves, GrowsAt}
-use Rattle.sk_coherence.specs.Steps.{Traces, IsFill}
+use Rattle.std.proofs.Common.{◌-◌, ◌≤◌}
+use Rattle.sk_coherence_laws.specs.Directory.{copy_at}
+use Rattle.sk_copy_states.specs.Sources.{MayRead}
+use Rattle.sk_coherence_laws.specs.Serves.{Serves, GrowsAt}
+use Rattle.sk_coherence_laws.specs.Steps.{Traces, IsFill}
 use Rattle.sk_coherence.proofs.directory.Directory.fill_needed.Given as goal
 
 abbrev pub invariant-parts : goal.invariant-parts

@@ -1,12 +1,11 @@
-use Rattle.std.proofs.Common.{◌≡◌, ◌≢◌, ℕ, ◌+◌, ◌<◌, ◌≤◌, Option, Some, None, IfSome, IsSome, arith, refl, sym, subst, ap, ◌∙◌}
-use Rattle.sk_coherence.specs.Copies.{home_in}
-use Rattle.sk_coherence.specs.Directory.{DirectoryView, copy_at}
-use Rattle.sk_coherence.specs.Moves.{CanMove, IsStaleAt, Fills, Idles}
-use Rattle.sk_coherence.specs.Sources.{MayRead}
-use Rattle.sk_coherence.specs.Steps.{IsFill}
-use Rattle.sk_coherence.specs.Serves.{Serves, GrowsAt}
-use Rattle.sk_coherence.proofs.ServesLemmas.{serves-idle, serves-trans, grows-idle, idle-reserve}
-use Rattle.sk_coherence.proofs.FillSums.{traces-idle, idle-trans, sum-serves, sum-traced, sum-grows, sum-read}
+use Rattle.std.proofs.Common.{◌≡◌, ℕ, arith, sym, subst, ap, ◌∙◌}
+use Rattle.sk_copy_states.specs.Copies.{home_in}
+use Rattle.sk_coherence_laws.specs.Directory.{DirectoryView, copy_at}
+use Rattle.sk_coherence_laws.specs.Moves.{CanMove, IsStaleAt, Idles}
+use Rattle.sk_copy_states.specs.Sources.{MayRead}
+use Rattle.sk_coherence_laws.specs.Steps.{IsFill}
+use Rattle.sk_coherence_laws.proofs.ServesLemmas.{serves-idle, grows-idle, idle-reserve}
+use Rattle.sk_coherence_laws.proofs.FillSums.{traces-idle, idle-trans, sum-serves, sum-traced, sum-grows, sum-read}
 use Rattle.sk_coherence.proofs.directory.Directory.fill_next.Goals as goal
 
 pub returns-in_err-reserve-clause-serves : goal.returns-in_err-reserve-clause-serves
@@ -53,7 +52,7 @@ module _ (a b n : DirectoryView) where
       }
 
   stale_of : (at lo hi : ℕ) → IsStaleAt a at lo hi → b ≡ record a { spaces = b.spaces; ready = b.ready } → IsStaleAt b at lo hi
-  stale_of at lo hi missing same = λ i above below. ap (λ x. Rattle.sk_coherence.specs.Copies.state_in (copy_at x at) i) same ∙ missing i above below
+  stale_of at lo hi missing same = λ i above below. ap (λ x. Rattle.sk_copy_states.specs.Copies.state_in (copy_at x at) i) same ∙ missing i above below
 
 pub returns-clause-serves : goal.returns-clause-serves
 returns-clause-serves g c =
@@ -65,7 +64,7 @@ returns-clause-serves g c =
     let can : CanMove b t.from.id t.to.id t.range.lo t.range.hi = can_of a b b t.from.id c.args.copy.id t.to.id t.range.lo t.range.hi (sym e.to)
     (subst (λ (x : ℕ). CanMove a t.from.id c.args.copy.id x t.range.hi) (sym e.begins) e.can) c.reserve.ensures.same in
     let missing : IsStaleAt b t.to.id t.range.lo t.range.hi = stale_of a b b t.to.id t.range.lo t.range.hi
-    (λ k above below. subst (λ (x : ℕ). Rattle.sk_coherence.specs.Copies.state_in (copy_at a x) k ≡ Rattle.sk_ranges.specs.declared.state.State.TheVariants.Stale) (sym e.to)
+    (λ k above below. subst (λ (x : ℕ). Rattle.sk_copy_states.specs.Copies.state_in (copy_at a x) k ≡ Rattle.sk_ranges.specs.declared.state.State.TheVariants.Stale) (sym e.to)
     (c.in-Some.ensures.stale k (omega (arith, above, e.begins)) (omega (arith, below, e.within.1)))) c.reserve.ensures.same in
     sum-serves a b c.fill.new.self t.from.id t.to.id t.range.lo t.range.hi c.is_sound.ensures c.is_sound-2.ensures i can missing c.in_ok-fill.ensures.ok c.in_ok-fill.ensures.traced
 
@@ -79,7 +78,7 @@ returns-clause-traced g c =
     let can : CanMove b t.from.id t.to.id t.range.lo t.range.hi = can_of a b b t.from.id c.args.copy.id t.to.id t.range.lo t.range.hi (sym e.to)
     (subst (λ (x : ℕ). CanMove a t.from.id c.args.copy.id x t.range.hi) (sym e.begins) e.can) c.reserve.ensures.same in
     let missing : IsStaleAt b t.to.id t.range.lo t.range.hi = stale_of a b b t.to.id t.range.lo t.range.hi
-    (λ k above below. subst (λ (x : ℕ). Rattle.sk_coherence.specs.Copies.state_in (copy_at a x) k ≡ Rattle.sk_ranges.specs.declared.state.State.TheVariants.Stale) (sym e.to)
+    (λ k above below. subst (λ (x : ℕ). Rattle.sk_copy_states.specs.Copies.state_in (copy_at a x) k ≡ Rattle.sk_ranges.specs.declared.state.State.TheVariants.Stale) (sym e.to)
     (c.in-Some.ensures.stale k (omega (arith, above, e.begins)) (omega (arith, below, e.within.1)))) c.reserve.ensures.same in
     sum-traced a b c.fill.new.self t.from.id t.to.id t.range.lo t.range.hi c.is_sound.ensures c.is_sound-2.ensures i can missing c.in_ok-fill.ensures.ok c.in_ok-fill.ensures.traced
 
@@ -93,7 +92,7 @@ returns-clause-stays g c =
     let can : CanMove b t.from.id t.to.id t.range.lo t.range.hi = can_of a b b t.from.id c.args.copy.id t.to.id t.range.lo t.range.hi (sym e.to)
     (subst (λ (x : ℕ). CanMove a t.from.id c.args.copy.id x t.range.hi) (sym e.begins) e.can) c.reserve.ensures.same in
     let missing : IsStaleAt b t.to.id t.range.lo t.range.hi = stale_of a b b t.to.id t.range.lo t.range.hi
-    (λ k above below. subst (λ (x : ℕ). Rattle.sk_coherence.specs.Copies.state_in (copy_at a x) k ≡ Rattle.sk_ranges.specs.declared.state.State.TheVariants.Stale) (sym e.to)
+    (λ k above below. subst (λ (x : ℕ). Rattle.sk_copy_states.specs.Copies.state_in (copy_at a x) k ≡ Rattle.sk_ranges.specs.declared.state.State.TheVariants.Stale) (sym e.to)
     (c.in-Some.ensures.stale k (omega (arith, above, e.begins)) (omega (arith, below, e.within.1)))) c.reserve.ensures.same in
     sum-grows a b c.fill.new.self t.from.id t.to.id t.range.lo t.range.hi c.is_sound.ensures c.is_sound-2.ensures i can missing c.in_ok-fill.ensures.ok c.in_ok-fill.ensures.traced c.args.copy.id
 
@@ -108,7 +107,7 @@ returns-clause-part g c =
     let can : CanMove b t.from.id t.to.id t.range.lo t.range.hi = can_of a b b t.from.id c.args.copy.id t.to.id t.range.lo t.range.hi (sym e.to)
     (subst (λ (x : ℕ). CanMove a t.from.id c.args.copy.id x t.range.hi) (sym e.begins) e.can) c.reserve.ensures.same in
     let missing : IsStaleAt b t.to.id t.range.lo t.range.hi = stale_of a b b t.to.id t.range.lo t.range.hi
-    (λ k above below. subst (λ (x : ℕ). Rattle.sk_coherence.specs.Copies.state_in (copy_at a x) k ≡ Rattle.sk_ranges.specs.declared.state.State.TheVariants.Stale) (sym e.to)
+    (λ k above below. subst (λ (x : ℕ). Rattle.sk_copy_states.specs.Copies.state_in (copy_at a x) k ≡ Rattle.sk_ranges.specs.declared.state.State.TheVariants.Stale) (sym e.to)
     (c.in-Some.ensures.stale k (omega (arith, above, e.begins)) (omega (arith, below, e.within.1)))) c.reserve.ensures.same in
     let before : MayRead (copy_at a t.to.id) c.args.need.lo t.range.lo = subst (λ (x : ℕ). MayRead (copy_at a x) c.args.need.lo t.range.lo) (sym e.to)
     (λ k above below. c.in-Some.ensures.earlier k above (omega (arith, below, e.begins))) in (

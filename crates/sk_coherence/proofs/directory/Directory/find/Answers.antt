@@ -1,10 +1,10 @@
 use Rattle.std.proofs.Common.{◌≡◌, ◌≢◌, ℕ, ◌<◌, List, length, slice_index, Some, sym, subst, ap, ◌∙◌}
-use Rattle.sk_coherence.specs.Copies.{home_in}
-use Rattle.sk_coherence.specs.Stores.{copies_in}
-use Rattle.sk_coherence.specs.Directory.{DirectoryView, copy_at, store_at}
-use Rattle.sk_coherence.specs.HostBlocks.{HasBlock}
-use Rattle.sk_coherence.proofs.BlockLemmas.{none_listed}
-use Rattle.sk_coherence.proofs.NamedMoves.{if_none_any}
+use Rattle.sk_copy_states.specs.Copies.{home_in}
+use Rattle.sk_copy_states.specs.Stores.{copies_in}
+use Rattle.sk_coherence_laws.specs.Directory.{DirectoryView, copy_at, store_at}
+use Rattle.sk_coherence_laws.specs.HostBlocks.{HasBlock}
+use Rattle.sk_coherence_laws.proofs.BlockLemmas.{none_listed}
+use Rattle.sk_coherence_laws.proofs.NamedMoves.{if_none_any}
 use Rattle.sk_coherence.proofs.directory.Directory.find.Goals as goal
 
 pub returns-in_err-id-clause-none : goal.returns-in_err-id-clause-none

@@ -1,14 +1,14 @@
-use Rattle.std.proofs.Common.{◌≡◌, ◌≢◌, ℕ, ◌+◌, ◌-◌, ◌<◌, ◌≤◌, List, length, slice_index, Option, Some, None, IfSome, IsSome, arith, rules, refl, sym, subst, ap, ◌∙◌}
+use Rattle.std.proofs.Common.{◌≡◌, ◌≢◌, ℕ, ◌+◌, ◌-◌, ◌≤◌, Some, arith, refl, sym, subst, ap}
 use Rattle.sk_ranges.specs.declared.state.State.TheVariants.{Owner}
 use Rattle.sk_spaces.specs.declared.step.Step.TheVariants.{Free}
-use Rattle.sk_coherence.specs.declared.held.Held.{Held}
-use Rattle.sk_coherence.specs.Copies.{store_in, state_in}
-use Rattle.sk_coherence.specs.Stores.{StoreView, PutsStore, copies_in}
-use Rattle.sk_coherence.specs.Directory.{DirectoryView, copy_at, store_at}
-use Rattle.sk_coherence.specs.Frees.{FreesCopy, FreesSome, LosesCopy}
-use Rattle.sk_coherence.specs.Traced.{TracesStep}
-use Rattle.sk_coherence.proofs.AddLemmas.{take_store, if_some}
-use Rattle.sk_coherence.proofs.FreeLemmas.{store_listed, sound-free, traced-free}
+use Rattle.sk_copy_states.specs.Copies.{store_in, state_in}
+use Rattle.sk_copy_states.specs.Stores.{StoreView, PutsStore}
+use Rattle.sk_coherence_laws.specs.Directory.{DirectoryView, copy_at, store_at}
+use Rattle.sk_coherence_laws.specs.Frees.{FreesCopy, FreesSome}
+use Rattle.sk_copy_states.specs.Stores.{LosesCopy}
+use Rattle.sk_coherence_laws.specs.Traced.{TracesStep}
+use Rattle.sk_coherence_laws.proofs.AddLemmas.{take_store, if_some}
+use Rattle.sk_coherence_laws.proofs.FreeLemmas.{store_listed, sound-free, traced-free}
 use Rattle.sk_coherence.proofs.directory.Directory.free.Goals as goal
 
 pub forget-requires-clause-there : goal.forget-requires-clause-there

@@ -1,15 +1,13 @@
-use Rattle.std.proofs.Common.{◌≡◌, ◌≢◌, ℕ, ◌+◌, ◌-◌, ◌<◌, ◌≤◌, Option, Some, None, IfSome, IsSome, arith, rules, refl, sym, subst, ap, ◌∙◌}
-use Rattle.sk_ranges.specs.declared.state.State.TheVariants.{Valid, Owner}
+use Rattle.std.proofs.Common.{◌≡◌, ◌+◌, ◌-◌, ◌≤◌, IfSome, arith, refl, sym, subst}
 use Rattle.sk_spaces.specs.declared.step.Step.TheVariants.{Back}
-use Rattle.sk_coherence.specs.declared.held.Held.{Held}
-use Rattle.sk_coherence.specs.Copies.{SetsAt, KeepsStates, held_in}
-use Rattle.sk_coherence.specs.Stores.{changes_in}
-use Rattle.sk_coherence.specs.Directory.{DirectoryView, copy_at, store_at, IsSound}
-use Rattle.sk_coherence.specs.Moves.{CanMove, HandsBack, OwnsAt}
-use Rattle.sk_coherence.specs.Traced.{TracesStep}
-use Rattle.sk_coherence.proofs.KeptLemmas.{sound-kept, keeps_same}
-use Rattle.sk_coherence.proofs.NamedMoves.{room_left_too}
-use Rattle.sk_coherence.proofs.BackSteps.{values, sound-back, traced-back}
+use Rattle.sk_spaces.proofs.CopyLemmas.{taken-copied}
+use Rattle.sk_copy_states.specs.Stores.{changes_in}
+use Rattle.sk_coherence_laws.specs.Directory.{DirectoryView, copy_at, store_at, cells_of_copy}
+use Rattle.sk_coherence_laws.specs.Moves.{CanMove, HandsBack, OwnsAt}
+use Rattle.sk_coherence_laws.specs.Traced.{TracesStep}
+use Rattle.sk_coherence_laws.proofs.KeptLemmas.{sound-kept}
+use Rattle.sk_coherence_laws.proofs.NamedMoves.{room_left_too}
+use Rattle.sk_coherence_laws.proofs.BackSteps.{values, sound-back, traced-back}
 use Rattle.sk_coherence.proofs.directory.Directory.hand_back.Goals as goal
 
 pub invariant_of-self : goal.invariant_of-self
@@ -60,6 +58,7 @@ returns-clause-ok g c =
         next_copy = c.move_as.ensures.memories.next;
         ranks = c.move_as.ensures.memories.ranks;
         capacity = c.move_as.ensures.memories.capacity;
+        used = λ space. omega (arith, c.move_as.ensures.memories.used space, taken-copied (cells_of_copy d t.from.id) (cells_of_copy d t.to.id) space t.range.lo t.range.hi);
         noted = c.move_as.ensures.noted;
       };
     })

@@ -1,11 +1,10 @@
-use Rattle.std.proofs.Common.{◌≡◌, ℕ, ◌+◌, ◌-◌, ◌<◌, ◌≤◌, List, Option, Some, None, IfSome, IsSome, arith, rules, refl, sym, subst, ap, ◌∙◌}
-use Rattle.sk_spaces.specs.declared.step.Step.{Step}
+use Rattle.std.proofs.Common.{◌≡◌, ℕ, ◌+◌, ◌-◌, ◌≤◌, List, arith, rules, refl, sym, subst}
 use Rattle.sk_spaces.specs.declared.step.Step.TheVariants.{Store}
 use Rattle.sk_spaces.specs.Spaces.{OnlyNotes}
-use Rattle.sk_coherence.specs.Stores.{StoreView, PutsStore, opened}
-use Rattle.sk_coherence.specs.Directory.{DirectoryView}
-use Rattle.sk_coherence.specs.Traced.{Opens}
-use Rattle.sk_coherence.proofs.OpenLemmas.{sound-open}
+use Rattle.sk_copy_states.specs.Stores.{PutsStore, opened}
+use Rattle.sk_coherence_laws.specs.Directory.{DirectoryView}
+use Rattle.sk_coherence_laws.specs.Traced.{Opens}
+use Rattle.sk_coherence_laws.proofs.OpenLemmas.{sound-open}
 use Rattle.sk_coherence.proofs.directory.Directory.open.Goals as goal
 
 pub invariant_of-self-2 : goal.invariant_of-self-2

@@ -1,14 +1,17 @@
-use Rattle.std.proofs.Common.{◌≡◌, ◌≢◌, ℕ, ◌+◌, ◌<◌, ◌≤◌, List, length, slice_index, Option, Some, None, IfSome, IsSome, option_map, arith, rules, refl, sym, subst, ap, ◌∙◌}
+use Rattle.std.proofs.Common.{◌≡◌, ℕ, ◌+◌, ◌<◌, ◌≤◌, List, length, slice_index, Option, IsSome, option_map, arith, rules, refl, sym, subst, ap, ◌∙◌}
 use Rattle.sk_spaces.specs.Machine.{Machine}
-use Rattle.sk_coherence.specs.declared.held.Held.{Held}
-use Rattle.sk_coherence.specs.Copies.{KeepsStates, held_in, pins_in}
-use Rattle.sk_coherence.specs.Stores.{copies_in, changes_in}
-use Rattle.sk_coherence.specs.Directory.{DirectoryView, copy_at, store_at}
-use Rattle.sk_coherence.specs.Traced.{IsLike}
-use Rattle.sk_coherence.specs.Owes.{HasRoomIn, before_write, OwesWrite}
-use Rattle.sk_coherence.proofs.TracedWrite.{some_home}
-use Rattle.sk_coherence.proofs.KeptLemmas.{sound-kept, keeps_all, keeps_same}
-use Rattle.sk_coherence.proofs.OweLemmas.{sound-owed, like-owed, pinned-more, kept-trans, room_kept}
+use Rattle.sk_copy_states.specs.declared.held.Held.{Held}
+use Rattle.sk_copy_states.specs.Copies.{KeepsStates, held_in, pins_in}
+use Rattle.sk_copy_states.specs.Stores.{copies_in, changes_in}
+use Rattle.sk_coherence_laws.specs.Directory.{DirectoryView, copy_at, store_at}
+use Rattle.sk_coherence_laws.specs.Traced.{IsLike}
+use Rattle.sk_copy_states.specs.Copies.{HasRoomIn}
+use Rattle.sk_copy_states.specs.Stores.{before_write}
+use Rattle.sk_coherence_laws.specs.Owes.{OwesWrite}
+use Rattle.sk_coherence_laws.proofs.TracedWrite.{some_home}
+use Rattle.sk_coherence_laws.proofs.KeptLemmas.{sound-kept, keeps_all}
+use Rattle.sk_coherence_laws.proofs.OweLemmas.{sound-owed, like-owed, pinned-more}
+use Rattle.sk_copy_states.proofs.RoomLemmas.{kept-trans, room_kept}
 use Rattle.sk_coherence.proofs.directory.Directory.owe_write.Goals as goal
 
 pub invariant_of-self : goal.invariant_of-self

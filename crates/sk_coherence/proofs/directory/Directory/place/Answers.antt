@@ -1,10 +1,7 @@
-use Rattle.std.proofs.Common.{◌≡◌, ℕ, ◌+◌, ◌<◌, ◌≤◌, Option, Some, None, IfSome, IsSome, arith, refl, sym, subst, ap, ◌∙◌}
-use Rattle.sk_coherence.specs.Directory.{DirectoryView, copy_at}
-use Rattle.sk_coherence.specs.Moves.{Idles}
-use Rattle.sk_coherence.specs.Steps.{IsAlloc}
-use Rattle.sk_coherence.proofs.ServesLemmas.{serves-idle, grows-idle, idle-reserve, idle-none}
-use Rattle.sk_coherence.proofs.FillSums.{traces-idle, idle-trans}
-use Rattle.sk_coherence.proofs.PlaceLemmas.{placed-serves, placed-home, placed-grows, placed-traced, fault_same}
+use Rattle.sk_coherence_laws.specs.Steps.{IsAlloc}
+use Rattle.sk_coherence_laws.proofs.ServesLemmas.{serves-idle, grows-idle, idle-reserve}
+use Rattle.sk_coherence_laws.proofs.FillSums.{traces-idle, idle-trans}
+use Rattle.sk_coherence_laws.proofs.PlaceLemmas.{places-idle, placed-places, placed-serves, placed-home, placed-grows, placed-traced}
 use Rattle.sk_coherence.proofs.directory.Directory.place.Goals as goal
 
 pub returns-in_err-reserve-clause-serves : goal.returns-in_err-reserve-clause-serves
@@ -54,3 +51,17 @@ returns-clause-traced g c = let p = c.args.place in
     placed-traced c.args.self.now c.reserve.new.self c.add_copy.new.self c.in_ok-copy.copy.id p.store p.space p.block.lo p.block.hi c.is_sound.ensures c.is_sound-2.ensures
     (idle-reserve c.args.self.now c.reserve.new.self c.reserve.ensures.same c.reserve.ensures.spaces c.reserve.ensures.kept) c.in_ok-copy.ensures.ok c.in_ok-copy.ensures.kept
     c.in_ok-copy.ensures.noted c.in_ok-copy.ensures.traced
+
+pub returns-in_err-reserve-clause-places : goal.returns-in_err-reserve-clause-places
+returns-in_err-reserve-clause-places g c =
+    places-idle c.args.self.now c.reserve.new.self c.args.place.space (idle-reserve c.args.self.now c.reserve.new.self c.reserve.ensures.same c.reserve.ensures.spaces c.reserve.ensures.kept)
+
+pub returns-in_err-copy-clause-places : goal.returns-in_err-copy-clause-places
+returns-in_err-copy-clause-places g c =
+    places-idle c.args.self.now c.add_copy.new.self c.args.place.space (idle-trans c.args.self.now c.reserve.new.self c.add_copy.new.self
+    (idle-reserve c.args.self.now c.reserve.new.self c.reserve.ensures.same c.reserve.ensures.spaces c.reserve.ensures.kept) c.in_err-copy.ensures.idle)
+
+pub returns-clause-places : goal.returns-clause-places
+returns-clause-places g c = let p = c.args.place in
+    placed-places c.args.self.now c.reserve.new.self c.add_copy.new.self c.in_ok-copy.copy.id p.store p.space p.block.lo p.block.hi c.is_sound.ensures c.is_sound-2.ensures
+    (idle-reserve c.args.self.now c.reserve.new.self c.reserve.ensures.same c.reserve.ensures.spaces c.reserve.ensures.kept) c.in_ok-copy.ensures.ok c.in_ok-copy.ensures.kept

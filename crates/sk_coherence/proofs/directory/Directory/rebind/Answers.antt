@@ -1,13 +1,13 @@
-use Rattle.std.proofs.Common.{◌≡◌, ◌≢◌, ℕ, ◌+◌, ◌-◌, ◌<◌, ◌≤◌, List, length, slice_index, Option, Some, None, IfSome, IsSome, arith, rules, refl, sym, subst, ap, ◌∙◌}
+use Rattle.std.proofs.Common.{◌≡◌, ◌≢◌, ℕ, ◌-◌, ◌<◌, List, length, slice_index, Some, IsSome, arith, rules, refl, sym, subst, ap, ◌∙◌}
 use Rattle.sk_spaces.specs.declared.step.Step.TheVariants.{Stale}
 use Rattle.sk_spaces.specs.Spaces.{OnlyNotes}
-use Rattle.sk_coherence.specs.Copies.{IsReady, StalesAll, store_in}
-use Rattle.sk_coherence.specs.Stores.{copies_in, changes_in, len_in}
-use Rattle.sk_coherence.specs.Directory.{DirectoryView, copy_at, store_at}
-use Rattle.sk_coherence.specs.Rebinds.{Rebinds}
-use Rattle.sk_coherence.specs.Traced.{TracesStep}
-use Rattle.sk_coherence.proofs.SoundWrite.{ready_all, distinct_all}
-use Rattle.sk_coherence.proofs.RebindLemmas.{sound-rebound, traced-rebound}
+use Rattle.sk_copy_states.specs.Copies.{IsReady, StalesAll, store_in}
+use Rattle.sk_copy_states.specs.Stores.{copies_in, changes_in, len_in}
+use Rattle.sk_coherence_laws.specs.Directory.{DirectoryView, copy_at, store_at}
+use Rattle.sk_coherence_laws.specs.Rebinds.{Rebinds}
+use Rattle.sk_coherence_laws.specs.Traced.{TracesStep}
+use Rattle.sk_coherence_laws.proofs.SoundWrite.{ready_all, distinct_all}
+use Rattle.sk_coherence_laws.proofs.RebindLemmas.{sound-rebound, traced-rebound}
 use Rattle.sk_coherence.proofs.directory.Directory.rebind.Goals as goal
 
 pub stale_all-requires-clause-ready : goal.stale_all-requires-clause-ready

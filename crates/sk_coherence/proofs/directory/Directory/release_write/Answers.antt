@@ -1,17 +1,16 @@
-use Rattle.std.proofs.Common.{◌≡◌, ◌≢◌, ℕ, ◌+◌, ◌-◌, ◌<◌, ◌≤◌, List, length, slice_index, min, Option, Some, None, IfSome, IsSome, arith, rules, sym, subst, ap, ◌∙◌, refl}
-use Rattle.sk_coherence.specs.declared.held.Held.{Held}
-use Rattle.sk_coherence.specs.Copies.{IsReady, OwnsAlone, ReachesIn, store_in, cell_in}
-use Rattle.sk_coherence.specs.Stores.{StoreView, copies_in, changes_in, UsesWrite}
-use Rattle.sk_coherence.specs.Directory.{DirectoryView, copy_at, store_at, cells_of_copy, IsSound}
+use Rattle.std.proofs.Common.{◌≡◌, ◌≢◌, ℕ, ◌+◌, ◌-◌, ◌<◌, List, length, slice_index, min, Option, Some, None, IfSome, IsSome, arith, rules, sym, subst, ap, ◌∙◌, refl}
+use Rattle.sk_copy_states.specs.declared.held.Held.{Held}
+use Rattle.sk_copy_states.specs.Copies.{IsReady, OwnsAlone, ReachesIn, store_in, cell_in}
+use Rattle.sk_copy_states.specs.Stores.{StoreView, copies_in, changes_in, UsesWrite}
+use Rattle.sk_coherence_laws.specs.Directory.{DirectoryView, copy_at, store_at, cells_of_copy}
 use Rattle.sk_spaces.specs.declared.step.Step.{Step}
-use Rattle.sk_spaces.specs.Blocks.{written}
-use Rattle.sk_spaces.specs.Spaces.{Changes, NotesStep}
-use Rattle.std.specs.Option.{option_map}
-use Rattle.sk_coherence.specs.Writes.{WritesCopy, WritesIn}
-use Rattle.sk_coherence.proofs.SoundWrite.{ready_all, distinct_all, sound-write, values}
-use Rattle.sk_coherence.proofs.KeptLemmas.{sound-kept, keeps_same}
-use Rattle.sk_coherence.specs.Traced.{TracesWrite}
-use Rattle.sk_coherence.proofs.TracedWrite.{like-write}
+use Rattle.sk_spaces.specs.Spaces.{NotesStep}
+use Rattle.sk_coherence_laws.specs.Writes.{WritesCopy, WritesIn}
+use Rattle.sk_coherence_laws.proofs.SoundWrite.{ready_all, distinct_all, sound-write, values}
+use Rattle.sk_coherence_laws.proofs.KeptLemmas.{sound-kept, keeps_same}
+use Rattle.sk_coherence_laws.specs.Traced.{TracesWrite}
+use Rattle.sk_coherence_laws.proofs.TracedWrite.{like-write}
+use Rattle.sk_coherence.proofs.LegalWrites.{traced-said}
 use Rattle.sk_coherence.proofs.directory.Directory.release_write.Goals as goal
 
 pub own_alone-requires-clause-ready : goal.own_alone-requires-clause-ready
@@ -114,3 +113,9 @@ pub returns-clause-ready : goal.returns-clause-ready
 returns-clause-ready g c =
     let owed : 0 < c.self.inside.owed = subst (λ (d : DirectoryView). 0 < d.owed) (sym c.self.view_is) c.requires.owed in
     subst (λ (x : DirectoryView). c.self.inside.ready - 1 + 1 ≡ x.ready) c.self.view_is (omega (arith, owed, c.self.invariant.owed))
+
+pub returns-clause-legal : goal.returns-clause-legal
+returns-clause-legal g c =
+    let n : DirectoryView = record { spaces = c.put.new.spaces; copies = c.own_alone.new.copies.entries; stores = c.use_write.new.stores.entries; next = c.self.inside.next; ready = c.self.inside.ready - 1; owed = c.saturating_sub-self-inside.result; named = c.take.new.self } in
+    λ step is host says. traced-said c.args.self.now n c.args.copy.id c.args.range.lo c.args.range.hi c.args.cells.now c.requires.there host c.requires.reaches c.requires.len
+    (returns-clause-traced g c) step says

@@ -1,8 +1,8 @@
-use Rattle.std.proofs.Common.{ℕ, refl, subst}
+use Rattle.std.proofs.Common.{refl, subst}
 use Rattle.sk_spaces.specs.Machine.{Machine}
-use Rattle.sk_coherence.specs.Directory.{DirectoryView}
-use Rattle.sk_coherence.specs.Traced.{IsLike}
-use Rattle.sk_coherence.proofs.KeptLemmas.{like-same}
+use Rattle.sk_coherence_laws.specs.Directory.{DirectoryView}
+use Rattle.sk_coherence_laws.specs.Traced.{IsLike}
+use Rattle.sk_coherence_laws.proofs.KeptLemmas.{like-same}
 use Rattle.sk_coherence.proofs.directory.Directory.reserve.Goals as goal
 
 pub returns-in_err-reserve-clause-traced : goal.returns-in_err-reserve-clause-traced

@@ -1,11 +1,11 @@
-use Rattle.std.proofs.Common.{◌≡◌, ◌≢◌, ℕ, ◌<◌, List, length, slice_index, Option, Some, None, IfSome, IsSome, arith, ◌≤◌, sym, subst, ap, ◌∙◌}
-use Rattle.sk_coherence.specs.Copies.{store_in, ReachesIn}
-use Rattle.sk_coherence.specs.Stores.{copies_in}
-use Rattle.sk_coherence.specs.Directory.{DirectoryView, copy_at, store_at}
-use Rattle.sk_coherence.specs.Moves.{CanMove, IsStaleAt}
-use Rattle.sk_coherence.specs.Sources.{IsSourceOf}
-use Rattle.sk_coherence.proofs.AddLemmas.{if_some}
-use Rattle.sk_coherence.proofs.SourceLemmas.{move-of-source, reaches_less}
+use Rattle.std.proofs.Common.{◌≡◌, ℕ, List, Some, IsSome, arith, sym, subst, ap, ◌∙◌}
+use Rattle.sk_copy_states.specs.Copies.{store_in, ReachesIn}
+use Rattle.sk_copy_states.specs.Stores.{copies_in}
+use Rattle.sk_coherence_laws.specs.Directory.{DirectoryView, copy_at, store_at}
+use Rattle.sk_coherence_laws.specs.Moves.{CanMove, IsStaleAt}
+use Rattle.sk_copy_states.specs.Sources.{IsSourceOf}
+use Rattle.sk_coherence_laws.proofs.AddLemmas.{if_some}
+use Rattle.sk_coherence_laws.proofs.SourceLemmas.{move-of-source, reaches_less}
 use Rattle.sk_coherence.proofs.directory.Directory.source.Goals as goal
 
 pub returns-clause-can : goal.returns-clause-can

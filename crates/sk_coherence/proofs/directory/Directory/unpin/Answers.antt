@@ -1,8 +1,8 @@
-use Rattle.std.proofs.Common.{ℕ, refl, subst}
+use Rattle.std.proofs.Common.{refl, subst}
 use Rattle.sk_spaces.specs.Machine.{Machine}
-use Rattle.sk_coherence.specs.Directory.{DirectoryView, copy_at}
-use Rattle.sk_coherence.specs.Traced.{IsLike}
-use Rattle.sk_coherence.proofs.KeptLemmas.{keeps_all, sound-kept, like-kept}
+use Rattle.sk_coherence_laws.specs.Directory.{DirectoryView, copy_at}
+use Rattle.sk_coherence_laws.specs.Traced.{IsLike}
+use Rattle.sk_coherence_laws.proofs.KeptLemmas.{keeps_all, sound-kept, like-kept}
 use Rattle.sk_coherence.proofs.directory.Directory.unpin.Goals as goal
 
 pub invariant_of-self : goal.invariant_of-self

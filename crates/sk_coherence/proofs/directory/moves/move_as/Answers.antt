@@ -1,6 +1,6 @@
 use Rattle.std.proofs.Common.{rules}
 use Rattle.sk_spaces.specs.declared.step.Step.TheVariants.{Copy}
-use Rattle.sk_coherence.proofs.NamedMoves.{changed_as}
+use Rattle.sk_coherence_laws.proofs.NamedMoves.{changed_as}
 use Rattle.sk_coherence.proofs.directory.moves.move_as.Goals as goal
 
 pub returns : goal.returns

@@ -1,0 +1,101 @@
+-- The steps of one kind are among those of another.
+use Rattle.std.proofs.Common.{ℕ, ◌+◌, ◌<◌, arith, ⊎_elim}
+use Rattle.sk_spaces.specs.declared.step.Step.{Step}
+use Rattle.sk_spaces.specs.declared.step.Step.TheVariants as line
+use Rattle.sk_spaces.specs.Machine.{Machine}
+use Rattle.sk_coherence_laws.specs.Steps.{IsAlloc, IsFill, IsServing, IsEviction, IsDue}
+
+-- a new copy on the host
+pub alloc-eviction : (s lo hi copy space used : ℕ) (m : Machine) (step : Step) → IsAlloc s 0 lo hi m step → IsEviction copy space used m step
+alloc-eviction s lo hi copy space used m (line.Memory ranks size tile lineage) is = absurd is
+alloc-eviction s lo hi copy space used m (line.Store store ty shape) is = absurd is
+alloc-eviction s lo hi copy space used m (line.Alloc id of at from to) is = is.1
+alloc-eviction s lo hi copy space used m (line.Free id) is = absurd is
+alloc-eviction s lo hi copy space used m (line.Stale store from to) is = absurd is
+alloc-eviction s lo hi copy space used m (line.Copy source target from to) is = absurd is
+alloc-eviction s lo hi copy space used m (line.Back source target from to) is = absurd is
+alloc-eviction s lo hi copy space used m (line.Send message source target from to) is = absurd is
+alloc-eviction s lo hi copy space used m (line.Deliver message) is = absurd is
+alloc-eviction s lo hi copy space used m (line.Fill id from to cell) is = absurd is
+alloc-eviction s lo hi copy space used m (line.Write id from cells) is = absurd is
+alloc-eviction s lo hi copy space used m (line.Poke id index cell) is = absurd is
+alloc-eviction s lo hi copy space used m (line.Clone source target from to) is = absurd is
+alloc-eviction s lo hi copy space used m (line.Call call text instance variant parts recorded result operands uniforms settings) is = absurd is
+alloc-eviction s lo hi copy space used m (line.Kernel call kind part from to out trapped inputs) is = absurd is
+alloc-eviction s lo hi copy space used m (line.Read id from to) is = absurd is
+alloc-eviction s lo hi copy space used m (line.Bind container store) is = absurd is
+alloc-eviction s lo hi copy space used m (line.Unbind container) is = absurd is
+alloc-eviction s lo hi copy space used m line.Flush is = absurd is
+
+-- a new copy
+pub alloc-due : (s space lo hi capacity len : ℕ) (m : Machine) (step : Step) → IsAlloc s space lo hi m step → IsDue capacity space len m step
+alloc-due s space lo hi capacity len m (line.Memory ranks size tile lineage) is = absurd is
+alloc-due s space lo hi capacity len m (line.Store store ty shape) is = absurd is
+alloc-due s space lo hi capacity len m (line.Alloc id of at from to) is = tt
+alloc-due s space lo hi capacity len m (line.Free id) is = absurd is
+alloc-due s space lo hi capacity len m (line.Stale store from to) is = absurd is
+alloc-due s space lo hi capacity len m (line.Copy source target from to) is = absurd is
+alloc-due s space lo hi capacity len m (line.Back source target from to) is = absurd is
+alloc-due s space lo hi capacity len m (line.Send message source target from to) is = absurd is
+alloc-due s space lo hi capacity len m (line.Deliver message) is = absurd is
+alloc-due s space lo hi capacity len m (line.Fill id from to cell) is = absurd is
+alloc-due s space lo hi capacity len m (line.Write id from cells) is = absurd is
+alloc-due s space lo hi capacity len m (line.Poke id index cell) is = absurd is
+alloc-due s space lo hi capacity len m (line.Clone source target from to) is = absurd is
+alloc-due s space lo hi capacity len m (line.Call call text instance variant parts recorded result operands uniforms settings) is = absurd is
+alloc-due s space lo hi capacity len m (line.Kernel call kind part from to out trapped inputs) is = absurd is
+alloc-due s space lo hi capacity len m (line.Read id from to) is = absurd is
+alloc-due s space lo hi capacity len m (line.Bind container store) is = absurd is
+alloc-due s space lo hi capacity len m (line.Unbind container) is = absurd is
+alloc-due s space lo hi capacity len m line.Flush is = absurd is
+
+fill-due : (space capacity len : ℕ) (m : Machine) (step : Step) → IsFill m step → IsDue capacity space len m step
+fill-due space capacity len m (line.Memory ranks size tile lineage) is = absurd is
+fill-due space capacity len m (line.Store store ty shape) is = absurd is
+fill-due space capacity len m (line.Alloc id of at from to) is = absurd is
+fill-due space capacity len m (line.Free id) is = absurd is
+fill-due space capacity len m (line.Stale store from to) is = absurd is
+fill-due space capacity len m (line.Copy source target from to) is = is
+fill-due space capacity len m (line.Back source target from to) is = absurd is
+fill-due space capacity len m (line.Send message source target from to) is = absurd is
+fill-due space capacity len m (line.Deliver message) is = absurd is
+fill-due space capacity len m (line.Fill id from to cell) is = absurd is
+fill-due space capacity len m (line.Write id from cells) is = absurd is
+fill-due space capacity len m (line.Poke id index cell) is = absurd is
+fill-due space capacity len m (line.Clone source target from to) is = absurd is
+fill-due space capacity len m (line.Call call text instance variant parts recorded result operands uniforms settings) is = absurd is
+fill-due space capacity len m (line.Kernel call kind part from to out trapped inputs) is = absurd is
+fill-due space capacity len m (line.Read id from to) is = absurd is
+fill-due space capacity len m (line.Bind container store) is = absurd is
+fill-due space capacity len m (line.Unbind container) is = absurd is
+fill-due space capacity len m line.Flush is = absurd is
+
+-- a new copy, or a fill of stale cells
+pub serving-due : (s space lo hi capacity len : ℕ) (m : Machine) (step : Step) → IsServing s space lo hi m step → IsDue capacity space len m step
+serving-due s space lo hi capacity len m step is = ⊎_elim
+    (λ (a : IsAlloc s space lo hi m step). alloc-due s space lo hi capacity len m step a)
+    (λ (f : IsFill m step). fill-due space capacity len m step f)
+    is
+
+-- an eviction while there is too little room
+pub eviction-due : (copy space used capacity len : ℕ) → 0 < space → capacity < used + len → (m : Machine) (step : Step) → IsEviction copy space used m step
+    → IsDue capacity space len m step
+eviction-due copy space used capacity len some full m (line.Memory ranks size tile lineage) is = absurd is
+eviction-due copy space used capacity len some full m (line.Store store ty shape) is = absurd is
+eviction-due copy space used capacity len some full m (line.Alloc id of at from to) is = tt
+eviction-due copy space used capacity len some full m (line.Free id) is = (some, omega (arith, full, is.1), is.2)
+eviction-due copy space used capacity len some full m (line.Stale store from to) is = absurd is
+eviction-due copy space used capacity len some full m (line.Copy source target from to) is = absurd is
+eviction-due copy space used capacity len some full m (line.Back source target from to) is = (some, omega (arith, full, is.1), is.3)
+eviction-due copy space used capacity len some full m (line.Send message source target from to) is = absurd is
+eviction-due copy space used capacity len some full m (line.Deliver message) is = absurd is
+eviction-due copy space used capacity len some full m (line.Fill id from to cell) is = absurd is
+eviction-due copy space used capacity len some full m (line.Write id from cells) is = absurd is
+eviction-due copy space used capacity len some full m (line.Poke id index cell) is = absurd is
+eviction-due copy space used capacity len some full m (line.Clone source target from to) is = absurd is
+eviction-due copy space used capacity len some full m (line.Call call text instance variant parts recorded result operands uniforms settings) is = absurd is
+eviction-due copy space used capacity len some full m (line.Kernel call kind part from to out trapped inputs) is = absurd is
+eviction-due copy space used capacity len some full m (line.Read id from to) is = absurd is
+eviction-due copy space used capacity len some full m (line.Bind container store) is = absurd is
+eviction-due copy space used capacity len some full m (line.Unbind container) is = absurd is
+eviction-due copy space used capacity len some full m line.Flush is = absurd is

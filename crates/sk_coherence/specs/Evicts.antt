@@ -1,0 +1,46 @@
+-- Copies that give way.
+use Rattle.std.specs.Prelude.{◌≡◌, ◌≢◌, ℕ, ◌+◌, ◌<◌, ◌≤◌, Option, None, IfSome, IsSome}
+use Rattle.sk_ranges.specs.declared.state.State.TheVariants.{Owner}
+use Rattle.sk_spaces.specs.Blocks.{taken_in}
+use Rattle.sk_spaces.specs.Spaces.{used_at}
+use Rattle.sk_copy_states.specs.declared.held.Held.{Held}
+use Rattle.sk_copy_states.specs.Copies.{state_in, home_in}
+use Rattle.sk_coherence_laws.specs.Directory.{DirectoryView, copy_at, cells_of_copy}
+use Rattle.sk_coherence_laws.specs.Serves.{Serves, GrowsAt}
+use Rattle.sk_coherence_laws.specs.Steps.{Traces, IsEviction}
+
+-- the copy owns none of these indices
+abbrev pub OwnsNone : Option Held → ℕ → ℕ → Type 0
+OwnsNone copy lo hi = (i : ℕ) → lo ≤ i → i < hi → state_in copy i ≢ Owner
+
+-- the copy lies on a rank
+abbrev pub IsFar : Option Held → Type 0
+IsFar copy = IfSome (home_in copy) (λ home. 0 < home.space)
+
+-- the copy lies in the space
+abbrev pub IsIn : ℕ → Option Held → Type 0
+IsIn space copy = IfSome (home_in copy) (λ home. home.space ≡ space)
+
+-- the copy lies on the host
+abbrev pub IsOnHost : Option Held → Type 0
+IsOnHost copy = IfSome (home_in copy) (λ home. home.space ≡ 0)
+
+-- the steps that were noted are those of an eviction of the copy
+abbrev pub TracesEviction : DirectoryView → DirectoryView → ℕ → Type 0
+TracesEviction old new copy = (space : ℕ) → 0 < space → IsIn space (copy_at old copy) → Traces (IsEviction copy space (used_at old.spaces space)) old new
+
+-- a copy, which lies where it did, handed cells back to the host: each index keeps its owner's cell, each copy stays, the copy owns no more than
+-- before, and of the ranks' spaces as much is taken
+pub record Retreats (old new : DirectoryView) (copy : ℕ) : Type 0 where
+  pub home : home_in (copy_at new copy) ≡ home_in (copy_at old copy)
+  pub serves : Serves old new
+  pub stays : (q : ℕ) → IsSome (copy_at old q) → GrowsAt old new q
+  pub owns : (i : ℕ) → state_in (copy_at new copy) i ≡ Owner → state_in (copy_at old copy) i ≡ Owner
+  pub used : (space : ℕ) → 0 < space → used_at new.spaces space ≡ used_at old.spaces space
+  pub traced : TracesEviction old new copy
+
+-- the copy is gone, and its cells are room again; each other copy stays, and may be read where it might be
+pub record Evicts (old new : DirectoryView) (copy : ℕ) : Type 0 where
+  pub gone : copy_at new copy ≡ None
+  pub others : (q : ℕ) → q ≢ copy → IsSome (copy_at old q) → GrowsAt old new q
+  pub used : (space : ℕ) → 0 < space → used_at new.spaces space + taken_in space (cells_of_copy old copy) ≡ used_at old.spaces space

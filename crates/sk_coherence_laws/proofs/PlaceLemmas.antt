@@ -1,0 +1,63 @@
+-- A copy that is found, or made where there is room in the journal.
+use Rattle.std.proofs.Common.{◌≡◌, ◌≢◌, ℕ, ◌+◌, ◌-◌, ◌==◌, if◌then◌else◌, Bool, Option, Some, None, IsSome, arith, refl, sym, subst, ◌∙◌, ap}
+use Rattle.sk_spaces.specs.declared.step.Step.TheVariants.{Alloc}
+use Rattle.sk_spaces.specs.declared.faults.SpaceFault.{SpaceFault}
+use Rattle.sk_spaces.specs.declared.faults.SpaceFault.TheVariants.{NoRoom, Memory}
+use Rattle.sk_spaces.specs.Memories.{MemoriesView}
+use Rattle.sk_spaces.specs.Spaces.{SpacesView, NotesStep, IsSpaceFault}
+use Rattle.sk_copy_states.specs.declared.held.Held.{Held}
+use Rattle.sk_copy_states.specs.Copies.{home_in, KeepsStates}
+use Rattle.sk_coherence_laws.specs.Directory.{DirectoryView, copy_at, IsSound}
+use Rattle.sk_coherence_laws.specs.Traced.{TracesStep}
+use Rattle.sk_coherence_laws.specs.Adds.{AddsSome, Places}
+use Rattle.sk_coherence_laws.specs.Moves.{Idles}
+use Rattle.sk_coherence_laws.specs.Serves.{Serves, GrowsAt}
+use Rattle.sk_coherence_laws.specs.Steps.{Traces, IsAlloc}
+use Rattle.sk_coherence_laws.proofs.ServesLemmas.{not_there, serves-trans, serves-idle, serves-add, grows-idle, grows-trans, grows_same}
+use Rattle.sk_coherence_laws.proofs.TracesLemmas.{traces-one, traces-trans}
+use Rattle.sk_coherence_laws.proofs.OpenLemmas.{eq_no}
+use Rattle.sk_coherence_laws.proofs.FillSums.{traces-idle}
+
+pub fault_same : (a b : SpacesView) (space lo hi : ℕ) (fault : SpaceFault) → b.memories ≡ a.memories → IsSpaceFault b space lo hi fault → IsSpaceFault a space lo hi fault
+fault_same a b space lo hi (NoRoom used len capacity) same is =
+    subst (λ (m : MemoriesView). Rattle.sk_spaces.specs.Memories.LacksRoom m space len × (lo + len ≡ hi) × (used ≡ Rattle.sk_spaces.specs.Memories.used_of m space) × (capacity ≡ m.capacity)) same is
+fault_same a b space lo hi Memory same is = tt
+
+-- nothing that is seen of copies and cells changed
+pub places-idle : (d n : DirectoryView) (space : ℕ) → Idles d n → Places d n space
+places-idle d n space i = record {
+  kept = λ q there. i.copies q;
+  used = λ at ne. ap (λ x. Rattle.sk_spaces.specs.Memories.used_of x at) i.spaces.memories;
+}
+
+other_space : (at space lo hi : ℕ) → at ≢ space → (if space == at then hi - lo else 0) ≡ 0
+other_space at space lo hi ne = ap (λ (t : Bool). if t then hi - lo else 0) (eq_no space at (λ e. ne (sym e)))
+
+module _ (a b n : DirectoryView) (id s space lo hi : ℕ) (sa : IsSound a) (sb : IsSound b) (i : Idles a b)
+    (adds : AddsSome b n id s space lo hi) (kept : (n.owed ≡ b.owed) × (n.named ≡ b.named)) where
+  absent : copy_at b id ≡ None
+  absent = sb.new_copies id (omega (arith, adds.2.memories.number))
+
+  pub placed-serves : Serves a n
+  placed-serves = serves-trans a b n sa (serves-idle a b i) (serves-add b n id s space lo hi adds.0 adds.1 sb kept.0 kept.1 adds.2)
+
+  pub placed-home : home_in (copy_at n id) ≡ Some (record { store = s; space = space; lo = lo; hi = hi })
+  placed-home = ap home_in adds.2.copies.here ∙ ap Some adds.2.home
+
+  pub placed-grows : (q : ℕ) → IsSome (copy_at a q) → GrowsAt a n q
+  placed-grows q there =
+      let g = grows-idle a b i q in
+      let ne : q ≢ id = λ e. not_there (copy_at b q) (ap (copy_at b) e ∙ absent) (Rattle.sk_coherence_laws.proofs.TracedWrite.some_home (copy_at a q) (copy_at b q) (sym g.home) there) in
+      grows-trans a b n q g (grows_same b n q (adds.2.copies.others q ne) (adds.2.memories.blocks.others q ne))
+
+  pub placed-traced : NotesStep b.spaces n.spaces (Alloc id s space lo hi) → TracesStep b n (Alloc id s space lo hi) → Traces (IsAlloc s space lo hi) a n
+  placed-traced noted t = traces-trans (IsAlloc s space lo hi) a b n (traces-idle (IsAlloc s space lo hi) a b i)
+      (traces-one (IsAlloc s space lo hi) b n (Alloc id s space lo hi) noted t (λ m l. (refl, refl, refl, refl)) (λ m l. refl))
+
+  pub placed-places : Places a n space
+  placed-places = record {
+    kept = λ q there.
+        let ne : q ≢ id = λ e. not_there (copy_at b q) (ap (copy_at b) e ∙ absent) (Rattle.sk_coherence_laws.proofs.TracedWrite.some_home (copy_at a q) (copy_at b q) (sym (i.copies q).home) there) in
+        subst (λ (o : Option Held). KeepsStates (copy_at a q) o) (sym (adds.2.copies.others q ne)) (i.copies q);
+    used = λ at ne. omega (arith, adds.2.memories.used at, other_space at space lo hi ne, ap (λ x. Rattle.sk_spaces.specs.Memories.used_of x at) i.spaces.memories);
+  }

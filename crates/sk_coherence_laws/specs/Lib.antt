@@ -1,0 +1,13 @@
+pub mod Directory
+pub mod Owned
+pub mod Traced
+pub mod Writes
+pub mod Adds
+pub mod HostBlocks
+pub mod Frees
+pub mod Moves
+pub mod Steps
+pub mod Serves
+pub mod Acquires
+pub mod Owes
+pub mod Rebinds

@@ -1,12 +1,12 @@
 -- What is kept of names, in the words of the code scheme.
 use Rattle.std.specs.Prelude.{ℕ, List, [], ◌∷◌, map, Option, Some, None}
+use Rattle.sk_base.specs.declared.number.Ty.TheVariants.{Int}
 use Rattle.sk_meaning.specs.Evaluation.{kind_type}
-use Rattle.sk_tree.specs.declared.tree.ParamKind.{ParamKind}
-use Rattle.sk_tree.specs.declared.tree.ParamKind.TheVariants.{Scalar, Index, Proxy, Region}
-use Rattle.sk_scheme.specs.Pieces.{Placed, wanted_code}
-use Rattle.sk_scheme.specs.Scheme.{Slot, Known, known_of, Compiled, Around}
-use Rattle.sk_isa.specs.declared.code.Instr.{Instr}
-use Rattle.sk_isa.specs.declared.code.Instr.TheVariants as instr
+use Rattle.sk_tree.specs.declared.tree.ParamKind.TheVariants as kinds
+use Rattle.sk_scheme.specs.Scheme.{Slot, Known, known_of}
+use Rattle.sk_emitter.specs.declared.applied.Applied.{Applied}
+use Rattle.sk_emitter.specs.declared.applied.Use.{Use}
+use Rattle.sk_emitter.specs.declared.applied.Use.TheVariants.{Left, Item, Region, Call}
 use Rattle.sk_emitter.specs.declared.names.Place.{Place}
 use Rattle.sk_emitter.specs.declared.names.Callee.{Callee}
 
@@ -22,16 +22,20 @@ slots_in scope = map (λ binding. (binding.0, slot_of binding.1)) scope
 abbrev pub known_in : List (List ℕ × Callee) → List (List ℕ × Known)
 known_in functions = map (λ binding. (binding.0, callee_of binding.1)) functions
 
--- what takes so many places and gives an element of a parameter; where there are no elements, nothing
-abbrev pub element_code : Slot → (places : ℕ) → List Instr
-element_code slot places = elim slot.kind [
-  | Scalar ty ↦ []
-  | Index dimension ↦ []
-  | Proxy dimension ty ↦ instr.Item slot.number places ∷ []
-  | Region dimension ty ↦ instr.Region slot.number places ∷ []
+-- what is done with the places of an element of a parameter; where there are no elements, they are left
+abbrev pub use_of : Slot → Use
+use_of slot = elim slot.kind [
+  | kinds.Scalar ty ↦ Left
+  | kinds.Index dimension ↦ Left
+  | kinds.Proxy dimension ty ↦ Item slot.number
+  | kinds.Region dimension ty ↦ Region slot.number
 ]
 
--- an argument for a parameter of a kind, or as it is
-abbrev pub argument_code : Option ParamKind → Compiled → Around → Placed
-argument_code (Some kind) part = wanted_code (kind_type kind) part
-argument_code None part = part.code
+abbrev pub place_application : Slot → Applied
+place_application slot = record { ty = kind_type slot.kind; passed = 0; kinds = []; used = use_of slot }
+
+-- what an application is in a function: an element of a parameter, or a call of a function
+abbrev pub application_of : Option Slot → Option Known → Applied
+application_of (Some slot) known = place_application slot
+application_of None (Some known) = record { ty = known.ret; passed = 0; kinds = known.kinds; used = Call known.number }
+application_of None None = record { ty = Int; passed = 0; kinds = []; used = Left }

@@ -4,8 +4,9 @@ ghost use Rattle.sk_scheme.specs.Scheme as scheme;
 use crate::names::{InScope, Place};
 use crate::output::address;
 use crate::statements::{Writer, all};
+use crate::types::kinds;
 use sk_isa::{Code, Signature};
-use sk_tree::{Function, Param, ParamKind};
+use sk_tree::{Function, Param};
 use sqlite_items::Items;
 use std::alloc::{AllocError, Global};
 
@@ -19,7 +20,7 @@ struct Compiled<'a> {
 
 /// What functions are compiled to, in text order, with the names that are in scope behind them.
 #[derive(Drop)]
-pub(crate) struct Functions<'a> {
+pub struct Functions<'a> {
     pub names: InScope<'a>,
     pub codes: Items<Code>,
     pub signatures: Items<Signature>,
@@ -35,17 +36,6 @@ fn declare_parameters<'a>(names: &mut InScope<'a>, params: &'a [Param]) -> Resul
         names.declare(param.name.as_bytes(), Place { number, kind })?;
     }
     Ok(())
-}
-
-/// The kinds of a function's parameters.
-fn kinds(alloc: Global, params: &[Param]) -> Result<Vec<ParamKind>, AllocError>
-    ensures { IfOk result (λ kinds. kinds.items ≡ scheme.kinds_of params.now) }
-{
-    let mut kinds = Vec::new(alloc);
-    for param in params {
-        kinds.push(param.kind)?;
-    }
-    Ok(kinds)
 }
 
 /// Compiles a function behind those in scope.
@@ -123,7 +113,7 @@ fn add<'a>(
 }
 
 /// Compiles functions in text order, each of which may call those before it.
-pub(crate) fn compile_all<'a>(
+pub fn compile_all<'a>(
     alloc: Global,
     functions: &'a [Function],
 ) -> Result<Functions<'a>, AllocError>

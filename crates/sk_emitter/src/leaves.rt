@@ -1,37 +1,19 @@
-ghost use Rattle.std.specs.Prelude.{◌≡◌, ◌++◌, slice_get, Option, Some, OnOk, IfOk};
+ghost use Rattle.std.specs.Prelude.{◌≡◌, ◌++◌, [], Option, Some, OnOk, IfOk};
 ghost use Rattle.std.specs.Option.{option_map};
-ghost use Rattle.sk_scheme.specs.Pieces as pieces;
 ghost use Rattle.sk_scheme.specs.Scheme as scheme;
-ghost use Rattle.sk_emitter.specs.Names.{slot_of, element_code};
+ghost use Rattle.sk_emitter.specs.Names.{slot_of, callee_of, place_application, application_of};
 
-use crate::names::Place;
-use crate::output::{address, put};
-use crate::types::kind_type;
+use crate::applied::{Applied, Given, Use};
+use crate::names::{Callee, InScope, Place};
+use crate::output::put;
+use crate::surrounding::Surrounding;
+use crate::types::{kind_type, kinds};
 use sk_base::Ty;
 use sk_isa::Instr;
 use sk_names::Name;
-use sk_tree::{Param, ParamKind, Un};
+use sk_tree::ParamKind;
+use sqlite_items::Items;
 use std::alloc::{AllocError, Global};
-
-/// What an expression leaves: the type of its value, and the most values that stand on the stack while it is evaluated.
-#[derive(Clone, Copy)]
-pub(crate) struct Given {
-    pub ty: Ty,
-    pub depth: usize,
-}
-
-/// Reduces a value where an `int` is wanted and it is a `long`.
-pub(crate) fn narrow(code: &mut Vec<Instr>, wanted: Ty, given: Ty) -> Result<(), AllocError>
-    ensures { OnOk result (code.new.items ≡ code.old.items ++ pieces.narrowed wanted given) }
-{
-    match wanted {
-        Ty::Long => Ok(()),
-        Ty::Int => match given {
-            Ty::Int => Ok(()),
-            Ty::Long => put(code, Instr::Wrap),
-        },
-    }
-}
 
 /// Loads a scalar, which is one value more on the stack; a parameter of another kind is no value.
 fn load(code: &mut Vec<Instr>, place: Place) -> Result<usize, AllocError>
@@ -50,7 +32,7 @@ fn load(code: &mut Vec<Instr>, place: Place) -> Result<usize, AllocError>
 }
 
 /// The value of a scalar. A name of anything else is no value, and leaves no code.
-pub(crate) fn name(code: &mut Vec<Instr>, place: Option<Place>) -> Result<Given, AllocError>
+fn name(code: &mut Vec<Instr>, place: Option<Place>) -> Result<Given, AllocError>
     ensures code { OnOk result (code.new.items ≡ code.old.items ++ scheme.name_code (option_map slot_of place)) }
     ensures given { IfOk result (λ given. given ≡ record { ty = scheme.name_type (option_map slot_of place); depth = scheme.name_depth (option_map slot_of place) }) }
 {
@@ -70,7 +52,7 @@ pub(crate) fn name(code: &mut Vec<Instr>, place: Option<Place>) -> Result<Given,
 }
 
 /// A field of a parameter.
-pub(crate) fn field(
+fn field(
     alloc: Global,
     code: &mut Vec<Instr>,
     place: Option<Place>,
@@ -87,35 +69,101 @@ pub(crate) fn field(
     }
 }
 
-/// The instruction of a prefix.
-pub(crate) fn prefix(op: Un, ty: Ty) -> Instr
-    ensures { result ≡ pieces.prefix_code op ty }
+/// An element of a parameter, by its places. Of parameters without elements the places are left.
+fn element(alloc: Global, place: Place) -> Applied
+    ensures { result ≡ place_application (slot_of place) }
 {
-    match op {
-        Un::Neg => Instr::Neg(ty),
-        Un::Inv => Instr::Inv(ty),
-        Un::Not => Instr::Not,
+    let used = match place.kind {
+        ParamKind::Scalar(_) => Use::Left,
+        ParamKind::Index(_) => Use::Left,
+        ParamKind::Proxy(_, _) => Use::Item(place.number),
+        ParamKind::Region(_, _) => Use::Region(place.number),
+    };
+    Applied {
+        ty: kind_type(place.kind),
+        passed: 0,
+        kinds: Items::new(alloc),
+        used,
     }
 }
 
-/// What takes places, and gives an element of a parameter. Of other parameters the places are left.
-pub(crate) fn element(code: &mut Vec<Instr>, place: Place, places: usize) -> Result<(), AllocError>
-    ensures { OnOk result (code.new.items ≡ code.old.items ++ element_code (slot_of place) places) }
+/// An element of a parameter, or a call of a function. Where there is neither, the parts are left.
+fn application(
+    alloc: Global,
+    place: Option<Place>,
+    callee: Option<Callee<'_>>,
+) -> Result<Applied, AllocError>
+    ensures { IfOk result (λ applied. applied ≡ application_of (option_map slot_of place) (option_map callee_of callee.entry)) }
 {
-    match place.kind {
-        ParamKind::Scalar(_) => Ok(()),
-        ParamKind::Index(_) => Ok(()),
-        ParamKind::Proxy(_, _) => put(code, Instr::Item(place.number, address(places)?)),
-        ParamKind::Region(_, _) => put(code, Instr::Region(place.number, address(places)?)),
+    match place {
+        Some(place) => Ok(element(alloc, place)),
+        None => match callee {
+            Some(callee) => Ok(Applied {
+                ty: callee.function.ret,
+                passed: 0,
+                kinds: Items::from_vec(kinds(alloc, callee.function.params.as_slice())?),
+                used: Use::Call(callee.number),
+            }),
+            None => Ok(Applied {
+                ty: Ty::Int,
+                passed: 0,
+                kinds: Items::new(alloc),
+                used: Use::Left,
+            }),
+        },
     }
 }
 
-/// The kind of a parameter, if there is one at that place.
-pub(crate) fn kind_at(params: &[Param], place: usize) -> Option<ParamKind>
-    ensures { result ≡ slice_get (scheme.kinds_of params.now) place }
-{
-    match params.get(place) {
-        Some(param) => Some(param.kind),
-        None => None,
+impl<'a> Surrounding for InScope<'a> {
+    ghost use Rattle.std.specs.Prelude.{refl};
+    ghost use Rattle.sk_scheme.specs.Scheme.{function_leaves};
+
+    ghost leaves = { function_leaves };
+
+    ghost number = { λ around name. 0 };
+
+    fn scalar(&self, code: &mut Vec<Instr>, name: &[u8]) -> Result<Given, AllocError> {
+        crate::leaves::name(code, self.place(name))
     }
+
+    fn field(
+        &self,
+        alloc: Global,
+        code: &mut Vec<Instr>,
+        name: &[u8],
+        field: &[u8],
+    ) -> Result<Given, AllocError> {
+        crate::leaves::field(alloc, code, self.place(name), field)?;
+        Ok(Given {
+            ty: Ty::Int,
+            depth: 1,
+        })
+    }
+
+    /// A function has no methods.
+    fn method(
+        &self,
+        _alloc: Global,
+        _code: &mut Vec<Instr>,
+        _name: &[u8],
+        _method: &[u8],
+    ) -> Result<Given, AllocError> {
+        Ok(Given {
+            ty: Ty::Int,
+            depth: 1,
+        })
+    }
+
+    fn applied(&self, alloc: Global, name: &[u8]) -> Result<Applied, AllocError> {
+        let place = self.place(name);
+        let applied = application(alloc, place, self.callee(name))?;
+        Ok(applied)
+    }
+
+    /// A function's containers have no numbers.
+    fn container(&self, _name: &[u8]) -> u32 {
+        0
+    }
+
+    ghost nameless = { λ name parts. refl };
 }

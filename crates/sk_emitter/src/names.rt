@@ -11,21 +11,21 @@ use std::marker::Model;
 
 /// Where a name's value is kept, and of what kind it is.
 #[derive(Clone, Copy)]
-pub(crate) struct Place {
+pub struct Place {
     pub number: u32,
     pub kind: ParamKind,
 }
 
 /// A function that may be called, with its number.
 #[derive(Clone, Copy)]
-pub(crate) struct Callee<'a> {
+pub struct Callee<'a> {
     pub number: u32,
     pub function: &'a Function,
 }
 
 /// The functions and the names in scope where code stands, which contracts see as their lists, the latest first.
 #[derive(Drop)]
-pub(crate) struct InScope<'a> {
+pub struct InScope<'a> {
     functions: Scopes<'a, Callee<'a>>,
     scope: Scopes<'a, Place>,
 }
@@ -38,7 +38,7 @@ impl<'a> Model for InScope<'a> {
 
 impl<'a> InScope<'a> {
     /// No function and no name. Memory is taken from the first declaration on.
-    pub(crate) fn new(alloc: Global) -> InScope<'a>
+    pub fn new(alloc: Global) -> InScope<'a>
         ensures { result ≡ record { functions = []; scope = [] } }
     {
         InScope {
@@ -48,35 +48,35 @@ impl<'a> InScope<'a> {
     }
 
     /// Where a name's value is kept, if it is in scope.
-    pub(crate) fn place(&self, name: &[u8]) -> Option<Place>
+    pub fn place(&self, name: &[u8]) -> Option<Place>
         ensures { option_map slot_of result ≡ bound_to name.now self.now.scope }
     {
         self.scope.find(name)
     }
 
     /// The function of a name, if it may be called.
-    pub(crate) fn callee(&self, name: &[u8]) -> Option<Callee<'a>>
+    pub fn callee(&self, name: &[u8]) -> Option<Callee<'a>>
         ensures { option_map callee_of result ≡ bound_to name.now self.now.functions }
     {
         self.functions.find(name)
     }
 
     /// How many names are in scope.
-    pub(crate) fn depth(&self) -> usize
+    pub fn depth(&self) -> usize
         ensures { result ≡ length self.now.scope }
     {
         self.scope.depth()
     }
 
     /// A name whose value is kept there is in scope from now on.
-    pub(crate) fn declare(&mut self, name: &'a [u8], place: Place) -> Result<(), AllocError>
+    pub fn declare(&mut self, name: &'a [u8], place: Place) -> Result<(), AllocError>
         ensures { OnOk result (self.new ≡ record { functions = self.old.functions; scope = (name.now, slot_of place) ∷ self.old.scope }) }
     {
         self.scope.declare(name, place)
     }
 
     /// A function may be called from now on.
-    pub(crate) fn define(&mut self, number: u32, function: &'a Function) -> Result<(), AllocError>
+    pub fn define(&mut self, number: u32, function: &'a Function) -> Result<(), AllocError>
         ensures { OnOk result (self.new ≡ record { functions = (function.now.name, known_of number function.now) ∷ self.old.functions; scope = self.old.scope }) }
     {
         self.functions
@@ -84,7 +84,7 @@ impl<'a> InScope<'a> {
     }
 
     /// Names go out of scope until no more than these many are left.
-    pub(crate) fn leave(&mut self, depth: usize)
+    pub fn leave(&mut self, depth: usize)
         ensures { self.new ≡ record { functions = self.old.functions; scope = drop (length self.old.scope - depth) self.old.scope } }
     {
         self.scope.leave(depth);

@@ -57,7 +57,7 @@ fn chosen(numbers: &[Cell], params: &[Param]) -> Result<u32, AllocError>
 }
 
 /// How many parameters of an instance's function are elements.
-fn elements(skeleton: Skeleton, numbers: &[Cell], params: &[Param]) -> Result<u32, AllocError>
+pub fn elements(skeleton: Skeleton, numbers: &[Cell], params: &[Param]) -> Result<u32, AllocError>
     ensures { IfOk result (λ elements. elements ≡ elements_of skeleton numbers.now (kinds_of params.now)) }
 {
     match skeleton {
@@ -86,7 +86,7 @@ fn numbers(alloc: Global, names: &InScope<'_>, functions: &[Name]) -> Result<Ite
 }
 
 /// An instance that is run sequentially alone.
-fn plan(alloc: Global, names: &InScope<'_>, instance: &Instance) -> Result<Plan, AllocError>
+pub fn plan(alloc: Global, names: &InScope<'_>, instance: &Instance) -> Result<Plan, AllocError>
     ensures { IfOk result (λ plan. plan ≡ plans.plan_of names.now.functions instance.now) }
 {
     let functions = instance.functions.as_slice();

@@ -12,7 +12,7 @@ use sqlite_items::Items;
 use std::alloc::{AllocError, Global};
 
 /// The names of functions.
-fn names(alloc: Global, functions: &[Function]) -> Result<Items<Name>, AllocError>
+pub fn function_names(alloc: Global, functions: &[Function]) -> Result<Items<Name>, AllocError>
     ensures { IfOk result (λ names. names ≡ map (λ function. function.name) functions.now) }
 {
     let mut names = Items::new(alloc);
@@ -23,7 +23,7 @@ fn names(alloc: Global, functions: &[Function]) -> Result<Items<Name>, AllocErro
 }
 
 /// No function is known never to trap, or to be an operator.
-fn no_marks(
+pub fn no_marks(
     alloc: Global,
     count: usize,
 ) -> Result<(Items<bool>, Items<Option<Operator>>), AllocError>
@@ -36,7 +36,7 @@ fn no_marks(
 }
 
 /// The statements of a function, and none where it is not there.
-fn body(functions: &[Function], place: usize) -> &[Statement]
+pub fn body(functions: &[Function], place: usize) -> &[Statement]
     ensures { result.now ≡ body_of (slice_get functions.now place) }
 {
     match functions.get(place) {
@@ -94,6 +94,6 @@ pub fn compiled(alloc: Global, program: &Program) -> Result<Object, AllocError>
         main: no_code(alloc),
         inputs: Items::new(alloc),
         containers: Items::new(alloc),
-        names: names(alloc, before)?,
+        names: function_names(alloc, before)?,
     })
 }

@@ -1,9 +1,11 @@
-ghost use Rattle.std.specs.Prelude.{◌≡◌};
+ghost use Rattle.std.specs.Prelude.{◌≡◌, IfOk};
 ghost use Rattle.sk_meaning.specs.Evaluation as evaluation;
 ghost use Rattle.sk_meaning.specs.Expressions as expressions;
+ghost use Rattle.sk_scheme.specs.Scheme as scheme;
 
 use sk_base::{Op, Ty};
-use sk_tree::{ParamKind, Un};
+use sk_tree::{Param, ParamKind, Un};
+use std::alloc::{AllocError, Global};
 
 /// `long` where either side is.
 pub(crate) fn wider(left: Ty, right: Ty) -> Ty
@@ -52,7 +54,7 @@ pub(crate) fn prefix_type(op: Un, ty: Ty) -> Ty
 }
 
 /// The type of a scalar, or of an element.
-pub(crate) fn kind_type(kind: ParamKind) -> Ty
+pub fn kind_type(kind: ParamKind) -> Ty
     ensures { result ≡ evaluation.kind_type kind }
 {
     match kind {
@@ -61,4 +63,15 @@ pub(crate) fn kind_type(kind: ParamKind) -> Ty
         ParamKind::Proxy(_, ty) => ty,
         ParamKind::Region(_, ty) => ty,
     }
+}
+
+/// The kinds of a function's parameters.
+pub fn kinds(alloc: Global, params: &[Param]) -> Result<Vec<ParamKind>, AllocError>
+    ensures { IfOk result (λ kinds. kinds.items ≡ scheme.kinds_of params.now) }
+{
+    let mut kinds = Vec::new(alloc);
+    for param in params {
+        kinds.push(param.kind)?;
+    }
+    Ok(kinds)
 }

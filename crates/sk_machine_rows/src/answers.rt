@@ -1,12 +1,14 @@
 //! What is told of a text.
-use crate::objects::shown;
+use crate::objects::{held, shown};
 use crate::words::code;
 use sk_codegen::plain;
-use sk_isa::Object;
+use sk_isa::Code;
 use sk_lexer::tokens;
 use sk_listing::listing;
+use sk_main_emitter::compile;
 use sk_parser::parse;
 use sk_tables::{Answers, Row, characters};
+use sk_tree::Program;
 use std::alloc::{AllocError, Global};
 
 /// No text of a row has so many bytes or tokens.
@@ -21,15 +23,15 @@ impl Answers for Compiler {
         if question == "words" {
             return characters(alloc, listing(alloc, &code(alloc)?)?.as_slice());
         }
-        match object_of(alloc, row.whole.as_slice()) {
-            Some(object) => told(alloc, question, &object),
-            None => String::from_str(alloc, "no object"),
+        match program_of(alloc, row.whole.as_slice()) {
+            Some(program) => told(alloc, question, &program),
+            None => String::from_str(alloc, "no program"),
         }
     }
 }
 
-/// The compiled form of a text, if it is a program.
-fn object_of(alloc: Global, text: &[u8]) -> Option<Object> {
+/// The program that a text is, if it is one.
+fn program_of(alloc: Global, text: &[u8]) -> Option<Program> {
     if text.len() >= MANY {
         return None;
     }
@@ -37,17 +39,28 @@ fn object_of(alloc: Global, text: &[u8]) -> Option<Object> {
     if tokens.len() >= MANY {
         return None;
     }
-    let program = parse(alloc, tokens.as_slice()).ok()?;
-    plain(alloc, &program).ok()
+    parse(alloc, tokens.as_slice()).ok()
 }
 
-/// What is told of a compiled form.
-fn told(alloc: Global, question: &str, object: &Object) -> Result<String, AllocError> {
+/// What is told of the compiled form of a program.
+fn told(alloc: Global, question: &str, program: &Program) -> Result<String, AllocError> {
+    if question == "main" {
+        return lines(alloc, &compile(alloc, program)?.main);
+    }
+    if question == "held" {
+        return held(alloc, &compile(alloc, program)?);
+    }
+    let object = plain(alloc, program)?;
     if question == "object" {
-        return shown(alloc, object);
+        return shown(alloc, &object);
     }
     match object.functions.as_slice().last() {
-        Some(code) => characters(alloc, listing(alloc, code)?.as_slice()),
+        Some(code) => lines(alloc, code),
         None => String::from_str(alloc, "no function"),
     }
+}
+
+/// The lines of a code.
+fn lines(alloc: Global, code: &Code) -> Result<String, AllocError> {
+    characters(alloc, listing(alloc, code)?.as_slice())
 }

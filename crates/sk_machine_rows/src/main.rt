@@ -5,7 +5,9 @@
 //! What may be asked:
 //!
 //! - `listing`: the lines of the last function before main.
-//! - `object`: what the compiled form of a text has beside code.
+//! - `object`: what the compiled form of a text has beside code, where its functions alone are compiled.
+//! - `main`: the lines of main.
+//! - `held`: what the compiled form of main has beside code.
 //! - `words`: the lines of code that no source gives yet, which `words` has; the row's text is not read.
 //!
 //! The modules:

@@ -1,1 +1,2 @@
+pub mod BareObjects
 pub mod Examples

@@ -1,5 +1,5 @@
 -- The compiled form of a whole program, and the objects that stand for it.
-use Rattle.std.specs.Prelude.{◌≡◌, ◌⊎◌, ℕ, List, [], ◌∷◌, ◌++◌, length, map, Contains, true, Bool, Option, Some, slice_get}
+use Rattle.std.specs.Prelude.{◌≡◌, ◌⊎◌, ℕ, List, [], ◌∷◌, ◌++◌, length, map, Contains, true, false, Bool, Option, Some, None, slice_get}
 use Rattle.sk_base.specs.declared.choice.Variant.{Variant}
 use Rattle.sk_base.specs.declared.choice.Variant.TheVariants.{Sequential}
 use Rattle.sk_base.specs.declared.number.Ty.TheVariants.{Int}
@@ -44,6 +44,17 @@ object_of program =
       names = map (λ function. function.name) functions;
     })
 
+-- an object without marks and operators, each of whose plans is run sequentially alone
+abbrev pub bare_plan : Plan → Plan
+bare_plan plan = record plan { variants = Sequential ∷ [] }
+
+abbrev pub bare_of : Object → Object
+bare_of object = record object {
+  safe = map (λ mark. false) object.safe;
+  operators = map (λ operator. None) object.operators;
+  instances = map bare_plan object.instances;
+}
+
 -- a mark may be missing
 abbrev pub AreSomeMarks : (marks all : List Bool) → Type 0
 AreSomeMarks [] [] = Unit {0}
@@ -87,3 +98,7 @@ pub record StandsFor (object : Object) (program : Program) : Type 0 where
   pub safe : AreSomeMarks object.safe (object_of program).safe
   pub operators : AreSomeOperators object.operators (object_of program).operators
   pub instances : AreSomePlans object.instances (object_of program).instances
+
+-- Without marks, operators and further variants the object of a program stands for it.
+abbrev pub BareObjectsStand : Type 0
+BareObjectsStand = (program : Program) → StandsFor (bare_of (object_of program)) program

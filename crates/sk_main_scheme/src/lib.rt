@@ -1,2 +1,6 @@
-//! What a whole program is compiled to, main included. Definitions alone: they stand in `specs/`.
+//! What a whole program is compiled to, main included: definitions, in `specs/`, and a law on them.
 #![tactic(auto)]
+
+mod laws;
+
+pub use laws::bare_objects_stand;

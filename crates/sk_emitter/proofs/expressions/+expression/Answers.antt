@@ -1,60 +1,63 @@
-use Rattle.std.proofs.Common.{◌≡◌, ◌+◌, ◌∙◌, sym, ap, ◌∷◌, ◌++◌, List, length, drop, map, max, Option, arith, add-one, subst, rules}
-use Rattle.std.proofs.lemmas.List.{length-map}
-use Rattle.std.specs.Option.{option_map}
-use Rattle.sk_tree.specs.declared.tree.Expr.{Expr}
-use Rattle.sk_scheme.specs.Pieces.{arguments_code, parts_depth}
-use Rattle.sk_scheme.specs.Scheme.{compiled_of, applied_code, kinds_of}
+use Rattle.std.proofs.Common.{◌≡◌, ◌≤◌, ◌+◌, ◌∙◌, sym, ap, ◌∷◌, ◌++◌, List, length, drop, take, map, max, arith, add-one, subst, rules}
+use Rattle.std.proofs.lemmas.List.{drop-map, take-map, length-map}
 use Rattle.std.specs.Prelude.{slice_set}
 use Rattle.sk_isa.specs.declared.code.Instr.TheVariants.{Zero, Jump}
-use Rattle.sk_emitter.specs.Names.{slot_of, callee_of, argument_code}
-use Rattle.sk_emitter.specs.declared.names.Place.{Place}
-use Rattle.sk_emitter.proofs.Lists.{left_cons}
-use Rattle.sk_emitter.proofs.Arguments.{arguments-none, arguments-more, element_applied, depth_more}
+use Rattle.sk_scheme.specs.Pieces.{Piece, arguments_code, parts_depth}
+use denote.Param.Weighed.{most}
+use Rattle.sk_tree.specs.declared.tree.Expr.{Expr, size-Expr}
+use Rattle.sk_tree.specs.declared.tree.ParamKind.{ParamKind}
+use Rattle.sk_emitter.specs.Applications.{piece_of, argument_code, numbers_in}
+use Rattle.sk_emitter.proofs.Lists.{left_cons, most_left}
+use Rattle.sk_emitter.proofs.PartsAppended.{arguments-more, same_depth, values-used, depth_more}
 use Rattle.sk_emitter.proofs.Filled.{behind_one, behind_two, behind_three, both_filled, choice_filled, either_filled}
 use Rattle.sk_emitter.proofs.expressions.+expression.Goals as goal
 
-pub apply-returns-in_ok-element-in-Some-clause-code : goal.apply-returns-in_ok-element-in-Some-clause-code
-apply-returns-in_ok-element-in-Some-clause-code t c =
-    element_applied c.in-Some.place.number c.in-Some.place.kind (option_map callee_of c.args.callee) (map compiled_of c.args.parts.now) c.args.names.now
-    c.args.code.now.items c.arguments.new.code.items c.element.new.code.items (length c.args.parts.now)
-    (sym (length-map c.args.parts.now compiled_of)) c.in_ok-depth-in-Some.ensures.code c.in_ok-element-in-Some.ensures
-    ∙ ap (λ (place : Option Place). c.args.code.now.items
-    ++ applied_code (option_map slot_of place) (option_map callee_of c.args.callee) (map compiled_of c.args.parts.now) c.args.names.now (length c.args.code.now.items))
-    (sym c.in-Some.is)
-
-pub apply-returns-in_ok-depth-in-None-callee-clause-code : goal.apply-returns-in_ok-depth-in-None-callee-clause-code
-apply-returns-in_ok-depth-in-None-callee-clause-code t c =
-    rw (c.in-None.is, c.in-None-callee.is)
-    (c.in_ok-depth-in-None-callee.ensures.code
-    ∙ ap (λ rest. c.args.code.now.items ++ rest) (arguments-none (map compiled_of c.args.parts.now) c.args.names.now (length c.args.code.now.items)))
-
 pub arguments-loop-i-preserved : goal.arguments-loop-i-preserved
-arguments-loop-i-preserved t c =
+arguments-loop-i-preserved g t c =
+    let piece = piece_of g.N.Surrounding.leaves in
     let old = c.loop-i.code.items in
     let around = c.args.names.now in
-    let kinds = kinds_of c.args.params.now in
+    let kinds = c.args.kinds.now in
     let part = c.index-parts-i.result in
     let first : drop c.loop-i.i c.args.parts.now ≡ part ∷ drop (c.loop-i.i + 1) c.args.parts.now =
     left_cons c.args.parts.now c.loop-i.i part (omega arith) c.index-parts-i.is in
-    let P : List Expr → Type 0 = λ left. max c.loop-i.depth (c.loop-i.i + parts_depth (map compiled_of left) around) ≡ parts_depth (map compiled_of c.args.parts.now) around in
+    let P : List Expr → Type 0 = λ left. max c.loop-i.depth (c.loop-i.i + parts_depth (map piece left) around) ≡ parts_depth (map piece c.args.parts.now) around in
     let deepest : c.max-depth.result ≡ max c.loop-i.depth c.in_ok-sum.field-0 = search rules in (
-      arguments-more kinds c.loop-i.i (c.loop-i.i + 1) (compiled_of part) (map compiled_of (drop (c.loop-i.i + 1) c.args.parts.now)) around
+      arguments-more kinds c.loop-i.i (c.loop-i.i + 1) (piece part) (map piece (drop (c.loop-i.i + 1) c.args.parts.now)) around
           old c.argument.new.code.items (add-one c.loop-i.i)
-          (c.in_ok-own.ensures.code ∙ ap (λ kind. old ++ argument_code kind (compiled_of part) around (length old)) c.kind_at.ensures)
-          ∙ ap (λ (left : List Expr). old ++ arguments_code (drop c.loop-i.i kinds) (map compiled_of left) around (length old)) (sym first)
+          (c.in_ok-own.ensures.code ∙ ap (λ kind. old ++ argument_code kind (piece part) around (length old)) c.kind_at.ensures)
+          ∙ ap (λ (left : List Expr). old ++ arguments_code (drop c.loop-i.i kinds) (map piece left) around (length old)) (sym first)
           ∙ c.loop-i.invariant.0,
-      depth_more c.loop-i.depth c.loop-i.i ((compiled_of part).depth around) (parts_depth (map compiled_of (drop (c.loop-i.i + 1) c.args.parts.now)) around)
-          (parts_depth (map compiled_of c.args.parts.now) around) c.max-depth.result
+      depth_more c.loop-i.depth c.loop-i.i ((piece part).depth around) (parts_depth (map piece (drop (c.loop-i.i + 1) c.args.parts.now)) around)
+          (parts_depth (map piece c.args.parts.now) around) c.max-depth.result
           (deepest ∙ ap (λ n. max c.loop-i.depth n) (c.in_ok-sum.ensures ∙ ap (λ n. c.loop-i.i + n) c.in_ok-own.ensures.depth))
           (subst P first c.loop-i.invariant.1),
     )
 
+pub apply-returns-clause-code : goal.apply-returns-clause-code
+apply-returns-clause-code g t c =
+    let piece = piece_of g.N.Surrounding.leaves in
+    let old = c.args.code.now.items in
+    let around = c.args.names.now in
+    let kinds = c.args.applied.kinds in
+    let passed = c.args.applied.passed in
+    let parts = c.args.parts.now in
+    let values : map piece c.parted.result.1.now ≡ drop passed (map piece parts) =
+    ap (map piece) c.parted.ensures.others ∙ sym (drop-map piece passed parts) in
+    let containers : map piece c.parted.result.0.now ≡ take passed (map piece parts) =
+    ap (map piece) c.parted.ensures.first ∙ sym (take-map piece passed parts) in
+    values-used c.args.applied.used passed kinds g.N.Surrounding.number (map piece parts) around
+    (map piece c.parted.result.0.now) (map piece c.parted.result.1.now)
+    old c.arguments.new.code.items c.use_values.new.code.items c.in_ok-numbers.numbers c.len-start.result (length c.parted.result.1.now)
+    containers values (c.in_ok-depth.ensures.code ∙ ap (λ (ks : List ParamKind). old ++ arguments_code ks (map piece c.parted.result.1.now) around (length old)) c.as_slice.ensures)
+    c.in_ok-numbers.ensures (omega arith) (sym (length-map c.parted.result.1.now piece)) c.in_ok-use_values.ensures
+
 pub both-returns-clause-code : goal.both-returns-clause-code
-both-returns-clause-code t c =
+both-returns-clause-code g t c =
     let base = c.args.code.now.items in
     let around = c.args.names.now in
-    let left = (compiled_of c.args.left.now).code around in
-    let right = (compiled_of c.args.right.now).code around in
+    let left = (piece_of g.N.Surrounding.leaves c.args.left.now).code around in
+    let right = (piece_of g.N.Surrounding.leaves c.args.right.now).code around in
     let one = left (length base) in
     let at : length c.room.new.code.items ≡ length base + length one + 1 =
     behind_one base one c.expression.new.code.items c.room.new.code.items _ c.in_ok-one.ensures.code c.in_ok-first.ensures.code in
@@ -69,12 +72,12 @@ both-returns-clause-code t c =
     c.in_ok-flags.ensures
 
 pub choose-returns-clause-code : goal.choose-returns-clause-code
-choose-returns-clause-code t c =
+choose-returns-clause-code g t c =
     let base = c.args.code.now.items in
     let around = c.args.names.now in
-    let test = (compiled_of c.args.test.now).code around in
-    let left = (compiled_of c.args.one.now).code around in
-    let right = (compiled_of c.args.other.now).code around in
+    let test = (piece_of g.N.Surrounding.leaves c.args.test.now).code around in
+    let left = (piece_of g.N.Surrounding.leaves c.args.one.now).code around in
+    let right = (piece_of g.N.Surrounding.leaves c.args.other.now).code around in
     let first = test (length base) in
     let at : length c.room.new.code.items ≡ length base + length first + 1 =
     behind_one base first c.expression.new.code.items c.room.new.code.items _ c.in_ok-first.ensures.code c.in_ok-fails.ensures.code in
@@ -94,11 +97,11 @@ choose-returns-clause-code t c =
     (omega (arith, c.in_ok-ends.ensures, c.len-2.ensures, c.expression-3.new.code.ok.0))
 
 pub either-returns-clause-code : goal.either-returns-clause-code
-either-returns-clause-code t c =
+either-returns-clause-code g t c =
     let base = c.args.code.now.items in
     let around = c.args.names.now in
-    let left = (compiled_of c.args.left.now).code around in
-    let right = (compiled_of c.args.right.now).code around in
+    let left = (piece_of g.N.Surrounding.leaves c.args.left.now).code around in
+    let right = (piece_of g.N.Surrounding.leaves c.args.right.now).code around in
     let one = left (length base) in
     let at : length c.room.new.code.items ≡ length base + length one + 3 =
     behind_three base one c.expression.new.code.items c.put.new.code.items c.put-2.new.code.items c.room.new.code.items _ _ _
@@ -113,3 +116,20 @@ either-returns-clause-code t c =
     (omega (arith, c.in_ok-fails.ensures, c.len-2.ensures, c.expression-2.new.code.ok.0))
     (omega (arith, c.in_ok-ends.ensures, c.len-3.ensures, c.expression-2.new.code.ok.0))
     c.in_ok-put-3.ensures c.in_ok-flags.ensures
+
+pub apply-arguments-requires : goal.apply-arguments-requires
+apply-arguments-requires g t c =
+    let fits : most size-Expr c.parted.result.1.now ≤ most size-Expr c.args.parts.now =
+    subst (λ (left : List Expr). most size-Expr left ≤ most size-Expr c.args.parts.now) (sym c.parted.ensures.others)
+    (most_left size-Expr c.args.applied.passed c.args.parts.now) in
+    search rules
+
+pub apply-returns-clause-given : goal.apply-returns-clause-given
+apply-returns-clause-given g t c =
+    let piece = piece_of g.N.Surrounding.leaves in
+    let passed = c.args.applied.passed in
+    let deepest : c.max.result ≡ max 1 c.in_ok-depth.depth = search rules in
+    ap (λ n. record { ty = c.args.applied.ty; depth = n })
+    (deepest ∙ ap (λ n. max 1 n) (c.in_ok-depth.ensures.depth
+    ∙ same_depth (map piece c.parted.result.1.now) (drop passed (map piece c.args.parts.now)) c.args.names.now
+    (ap (map piece) c.parted.ensures.others ∙ sym (drop-map piece passed c.args.parts.now))))

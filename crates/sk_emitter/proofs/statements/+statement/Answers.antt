@@ -1,5 +1,5 @@
 use Rattle.std.proofs.Common.{◌≡◌, ◌∙◌, ap, max, refl, arith, rules}
-use Rattle.sk_emitter.specs.declared.leaves.Given.{Given}
+use Rattle.sk_emitter.specs.declared.applied.Given.{Given}
 use Rattle.std.specs.Prelude.{slice_set, List}
 use Rattle.sk_scheme.specs.Scheme.{compiled_of, Around}
 use Rattle.sk_isa.specs.declared.code.Instr.{Instr}

@@ -1,0 +1,5 @@
+use Rattle.sk_main_laws.proofs.Finds.{calls_are_given}
+use Rattle.sk_main_laws.proofs.laws.main_calls_are_given.Goals as goal
+
+pub returns : goal.returns
+returns c = calls_are_given

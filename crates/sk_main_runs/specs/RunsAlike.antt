@@ -1,0 +1,58 @@
+-- When the run of a compiled program is that of its source: what is asked of the program and the object.
+use Rattle.std.specs.Prelude.{◌≡◌, ℕ, ◌-◌, Bool, true, List, [], length, map, ℤ, Some, Result, slice_get}
+use Rattle.std.specs.List.{list_all}
+use Rattle.sk_isa.specs.Coded.{step_limit}
+use Rattle.sk_isa.specs.Configurations.{Ended, run_of}
+use Rattle.sk_isa.specs.declared.object.Object.{Object}
+use Rattle.sk_main_code.specs.MainSoundness.{names_in_main}
+use Rattle.sk_main_code.specs.MainSteps.{coded_of, main_start, next_in_main}
+use Rattle.sk_main_run.specs.MainRun.{linked, run_of_program}
+use Rattle.sk_main_runs.specs.SameMeaning.{FunctionsAgree, IsInstance}
+use Rattle.sk_main_runs.specs.StatementFits.{judged_of, sequence_fits, start_standing}
+use Rattle.sk_main_scheme.specs.MainScheme.{Emitted, main_emitted, made_of}
+use Rattle.sk_meaning.specs.Evaluation.{Callables, callables_of}
+use Rattle.sk_safety.specs.Safety.{Judgements, judgements_after}
+use Rattle.sk_scheme.specs.Plans.{functions_before_main}
+use Rattle.sk_scheme.specs.Scheme.{Known, known_functions}
+use Rattle.sk_tree.specs.Functions.{body_of}
+use Rattle.sk_tree.specs.declared.tree.Instance as instances
+use Rattle.sk_tree.specs.declared.tree.Program.{Program}
+use Rattle.sk_tree.specs.declared.tree.Statement.{Statement}
+use Rattle.sk_world.specs.World.{Input, World, Over}
+
+-- the body of main, which is the last function
+abbrev pub main_body : Program → List Statement
+main_body program = body_of (slice_get program.functions (length program.functions - 1))
+
+abbrev pub known_in : Program → List (List ℕ × Known)
+known_in program = known_functions (functions_before_main program)
+
+-- what main is compiled to
+abbrev pub main_of : Program → Emitted
+main_of program = main_emitted (known_in program) (main_body program)
+
+abbrev pub judgements_in : Program → Judgements
+judgements_in program = judgements_after [] (functions_before_main program)
+
+-- The object has main's code, and what it names; main's statements fit the names in scope; and functions and instances of the
+-- object mean what they mean in the tree.
+pub record IsAlike (object : Object) (program : Program) : Type 0 where
+  pub code : object.main.instrs ≡ (main_of program).code
+  pub slots : object.main.slots ≡ length (main_of program).behind.slots
+  pub containers : object.containers ≡ (main_of program).behind.containers
+  pub names : list_all (names_in_main object) object.main.instrs ≡ true
+  pub fits : sequence_fits (map judged_of (main_body program)) (known_in program) start_standing ≡ true
+  pub functions : FunctionsAgree object (known_in program) (callables_of (functions_before_main program))
+  pub instances : (number : ℕ) (instance : instances.Instance) → slice_get (main_of program).behind.instances number ≡ Some instance
+      → (callables : Callables) → FunctionsAgree object (known_in program) callables
+      → IsInstance object (made_of (known_in program) number instance) (linked (judgements_in program) callables number instance)
+
+-- the run of the object's main is over within its steps
+abbrev pub IsOver : Object → List Input → ℕ → Type 0
+IsOver object inputs bound =
+    (result : Result (ℤ × World) Over) × (run_of (next_in_main object) object.main.instrs (step_limit object.main.instrs bound) (main_start object inputs bound) ≡ Ended result)
+
+-- The run of the object is that of the program, events included, wherever it is over.
+abbrev pub MainRunsAlike : Type 0
+MainRunsAlike = (program : Program) (object : Object) → IsAlike object program → (inputs : List Input) (bound : ℕ) (dump : Bool)
+    → IsOver object inputs bound → coded_of object inputs bound dump ≡ run_of_program program inputs bound dump

@@ -1,0 +1,15 @@
+pub mod Bodies
+pub mod Choices
+pub mod ContainerStatements
+pub mod Expressions
+pub mod Frames
+pub mod Jumps
+pub mod Objects
+pub mod Parts
+pub mod Pieces
+pub mod Scopes
+pub mod StatementNodes
+pub mod Statements
+pub mod Unmarked
+pub mod Values
+pub mod Whole

@@ -1,0 +1,14 @@
+pub mod Expressions
+pub mod Functions
+pub mod Instances
+pub mod KnownNames
+pub mod Meant
+pub mod Programs
+pub mod Returns
+pub mod Shapes
+pub mod Statements
+pub mod Tokens
+pub mod Untold
+pub mod WrittenExpressions
+pub mod WrittenPrograms
+pub mod WrittenStatements

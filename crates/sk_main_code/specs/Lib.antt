@@ -1,4 +1,6 @@
 pub mod CallShapes
+pub mod Inputs
 pub mod MainSoundness
 pub mod MainSteps
 pub mod Sound
+pub mod Vectors

@@ -7,7 +7,7 @@ use Rattle.sk_base.specs.declared.number.Ty.TheVariants.{Int, Long}
 use Rattle.sk_isa.specs.declared.object.Object.{Object}
 use Rattle.sk_main_code.specs.MainSoundness.{is_input, is_so}
 use Rattle.sk_main_code.specs.Sound.{AreDistinct}
-use Rattle.sk_main_laws.specs.FineWorlds.{AnswerAll, Answers}
+use Rattle.sk_main_code.specs.Inputs.{AnswerAll, Answers}
 use Rattle.sk_names.specs.Bytes.{same_bytes}
 use Rattle.sk_names.specs.BytesLaws.{same_bytes-true}
 use Rattle.sk_tree.specs.Parameters.{same_type}

@@ -9,7 +9,7 @@ use Rattle.sk_main_laws.proofs.Instructions.{steps_are_fine}
 use Rattle.sk_main_laws.proofs.Ranks.{main_measure_falls}
 use Rattle.sk_main_laws.proofs.Runs.{begins_fine, run-next, run_ends}
 use Rattle.sk_main_laws.specs.FinePoints.{IsFineNext}
-use Rattle.sk_main_laws.specs.FineWorlds.{AnswerAll}
+use Rattle.sk_main_code.specs.Inputs.{AnswerAll}
 use Rattle.sk_main_laws.specs.Laws.{RunEnds, main_outcome}
 use Rattle.sk_main_laws.specs.Running.{IsMeaning, IsRunning, IsRunningNext, RunsOn}
 use Rattle.sk_world.specs.World.{Input, Over, World}

@@ -12,7 +12,8 @@ use Rattle.sk_main_code.specs.Sound.{IsSound}
 use Rattle.sk_main_laws.proofs.Instructions.{steps_are_fine}
 use Rattle.sk_main_laws.proofs.Ranks.{main_measure_falls, main_rank_bound}
 use Rattle.sk_main_laws.specs.FinePoints.{IsFineEnd, IsFineNext, IsFineStep}
-use Rattle.sk_main_laws.specs.FineWorlds.{AnswerAll, IsFineWorld}
+use Rattle.sk_main_code.specs.Inputs.{AnswerAll}
+use Rattle.sk_main_laws.specs.FineWorlds.{IsFineWorld}
 use Rattle.sk_main_laws.specs.Laws.{IsFineIn, RunEnds, StepsAreFine, main_outcome}
 use Rattle.sk_main_laws.specs.Ranks.{main_rank, measure_of}
 use Rattle.sk_meaning.specs.Evaluation.{kind_type}

@@ -4,12 +4,13 @@ use Rattle.sk_base.specs.Arithmetic.{InRange}
 use Rattle.sk_base.specs.Shape.{IsShape, cells_of}
 use Rattle.sk_isa.specs.declared.object.Object.{Object}
 use Rattle.sk_isa.specs.declared.object.Plan.{Plan}
+use Rattle.sk_main_code.specs.Inputs.{AnswerAll}
 use Rattle.sk_main_code.specs.MainSteps.{linked_plan}
 use Rattle.sk_tree.specs.declared.declared.Declared.{Declared}
 use Rattle.sk_tree.specs.declared.settings.Settings.{Settings}
 use Rattle.sk_world.specs.Calls.{Instance}
 use Rattle.sk_world.specs.InstanceSettings.{overlap_limit, region_type}
-use Rattle.sk_world.specs.World.{Container, Input, World, container_in, settings_in}
+use Rattle.sk_world.specs.World.{Container, World, container_in, settings_in}
 
 -- a container is as it is declared: its name, its type, a shape of its kind, and as many cells, each of its type
 pub record IsAsDeclared (declared : Declared) (container : Container) : Type 0 where
@@ -34,21 +35,6 @@ pub record AreInRange (instance : Instance) (settings : Settings) : Type 0 where
   pub rows : settings.overlap.0 ≤ overlap_limit
   pub columns : settings.overlap.1 ≤ overlap_limit
   pub pad : InRange (region_type instance) settings.pad
-
--- an input that is given for a declared one: its name, sizes of its kind, and as many cells of its type
-pub record Answers (declared : Declared) (input : Input) : Type 0 where
-  pub name : input.name ≡ declared.name
-  pub kind : length input.sizes ≡ declared.kind
-  pub shape : IsShape input.sizes
-  pub count : length input.cells ≡ cells_of input.sizes
-  pub cells : All (InRange declared.ty) input.cells
-
--- one for each that is declared, in their order
-abbrev pub AnswerAll : List Declared → List Input → Type 0
-AnswerAll [] [] = Unit {0}
-AnswerAll [] (input ∷ inputs) = ⊥
-AnswerAll (declared ∷ more) [] = ⊥
-AnswerAll (declared ∷ more) (input ∷ inputs) = Answers declared input × AnswerAll more inputs
 
 -- The live containers are there and no others, each as it is declared; the settings of each instance are in their ranges; and
 -- the inputs are those that the object declares.

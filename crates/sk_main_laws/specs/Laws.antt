@@ -13,7 +13,8 @@ use Rattle.sk_main_code.specs.MainSteps.{MainPoint, coded_of, main_start, next_i
 use Rattle.sk_main_code.specs.Sound.{IsSound}
 use Rattle.sk_main_laws.specs.Calls.{AreAsWanted, HasFineCalls, IsCalled, MakesCall, first_of, given_to_call, wanted_by_call}
 use Rattle.sk_main_laws.specs.FinePoints.{IsFineEnd, IsFineNext, IsFinePoint, IsFineStep}
-use Rattle.sk_main_laws.specs.FineWorlds.{AnswerAll, IsFineWorld}
+use Rattle.sk_main_code.specs.Inputs.{AnswerAll}
+use Rattle.sk_main_laws.specs.FineWorlds.{IsFineWorld}
 use Rattle.sk_main_laws.specs.Finds.{Finds}
 use Rattle.sk_main_laws.specs.Ranks.{main_rank, measure_of}
 use Rattle.sk_world.specs.Calls.{operands_in}

@@ -5,7 +5,7 @@ use Rattle.sk_isa.specs.declared.object.Object.{Object}
 use Rattle.sk_main_code.specs.MainSteps.{MainNext, MainPoint, coded_of, main_start, next_in_main}
 use Rattle.sk_main_code.specs.Sound.{IsSound}
 use Rattle.sk_main_laws.specs.FinePoints.{IsFineEnd}
-use Rattle.sk_main_laws.specs.FineWorlds.{AnswerAll}
+use Rattle.sk_main_code.specs.Inputs.{AnswerAll}
 use Rattle.sk_main_laws.specs.Laws.{IsFineIn, main_outcome}
 use Rattle.sk_main_laws.specs.Ranks.{measure_of}
 use Rattle.sk_world.specs.Runs.{run_over}

@@ -1,33 +1,16 @@
 -- When the run of a compiled program is that of its source.
-use Rattle.std.specs.Prelude.{◌≡◌, ℕ, Bool, List, [], ◌∷◌, length, All}
-use Rattle.sk_base.specs.Arithmetic.{InRange}
-use Rattle.sk_base.specs.Shape.{IsShape, cells_of}
+use Rattle.std.specs.Prelude.{◌≡◌, ℕ, Bool, List}
 use Rattle.sk_grammar.specs.Grammar.{IsFromText}
 use Rattle.sk_isa.specs.declared.object.Object.{Object}
+use Rattle.sk_main_code.specs.Inputs.{AnswerAll}
 use Rattle.sk_main_code.specs.MainSteps.{coded_of}
 use Rattle.sk_main_run.specs.MainRun.{run_of_program}
 use Rattle.sk_main_scheme.specs.Objects.{StandsFor, object_of}
 use Rattle.sk_plain.specs.Means.{MeansSource}
-use Rattle.sk_tree.specs.declared.declared.Declared.{Declared}
 use Rattle.sk_tree.specs.declared.tree.Program.{Program}
 use Rattle.sk_typing.specs.Typing.{IsTyped}
 use Rattle.sk_world.specs.Runs.{ProgramRun}
 use Rattle.sk_world.specs.World.{Input}
-
--- an input that is given for a declared one: its name, sizes of its kind, and as many cells of its type
-pub record Answers (declared : Declared) (input : Input) : Type 0 where
-  pub name : input.name ≡ declared.name
-  pub kind : length input.sizes ≡ declared.kind
-  pub shape : IsShape input.sizes
-  pub count : length input.cells ≡ cells_of input.sizes
-  pub cells : All (InRange declared.ty) input.cells
-
--- one for each that is declared, in their order
-abbrev pub AnswerAll : List Declared → List Input → Type 0
-AnswerAll [] [] = Unit {0}
-AnswerAll [] (input ∷ inputs) = ⊥
-AnswerAll (declared ∷ more) [] = ⊥
-AnswerAll (declared ∷ more) (input ∷ inputs) = Answers declared input × AnswerAll more inputs
 
 -- two runs print the same, leave the same containers, and end alike
 pub record IsSameRun (one other : ProgramRun) : Type 0 where

@@ -14,6 +14,10 @@ use Rattle.sk_isa.specs.declared.object.Plan.{Plan}
 use Rattle.sk_main_code.specs.CallShapes.{fits_statement}
 use Rattle.sk_main_code.specs.MainSoundness.{calls_fit, names_in_main}
 use Rattle.sk_main_code.specs.MainSteps.{MainNext, MainPoint, done_by, going_in, linked_plan, next_in_main, world_after}
+use Rattle.sk_main_fits.specs.Fits.{fits, all_fit, is_whole}
+use Rattle.sk_main_fits.specs.StatementFits.{Judged, Test, all_whole, call_fits, container_types, judge_step, names_whole}
+use Rattle.sk_main_names.proofs.Lists.{drop-map, size-dropped, take-map}
+use Rattle.sk_main_names.proofs.Tests.{same_number, whole_is}
 use Rattle.sk_main_run.specs.MainNames.{Meant, Scope, State, main_names, number_in, all_evaluated}
 use Rattle.sk_main_run.specs.MainNames as tree
 use Rattle.sk_main_run.specs.MainRun.{Running, Numbers, Numbered, and_run, in_world, call_run, name_of, running_step}
@@ -25,11 +29,9 @@ use Rattle.sk_main_runs.proofs.Flows.{Runs, runs_to, runs_values, runs_world}
 use Rattle.sk_main_runs.proofs.Names.{name_found}
 use Rattle.sk_main_runs.proofs.Runs.{like_same, stands}
 use Rattle.sk_main_runs.proofs.StatementNodes.{append-none, IsAt, Does, Follows, keeps_same, counted_does}
-use Rattle.sk_main_runs.proofs.Tidy.{same_number, tidy_like}
+use Rattle.sk_main_runs.proofs.Tidy.{tidy_like}
 use Rattle.sk_main_runs.proofs.Values.{arguments_give, wrapped-twice}
-use Rattle.sk_main_runs.specs.Fits.{fits, all_fit, is_whole}
 use Rattle.sk_main_runs.specs.SameMeaning.{Agree, AreNamed, IsInstance, IsLeft, IsTidy, fitted}
-use Rattle.sk_main_runs.specs.StatementFits.{Judged, Test, judge_step, names_whole, all_whole, call_fits}
 use Rattle.sk_main_scheme.specs.MainScheme.{Around, Named, Number, Whole, Called, Made, Standing, Emitting, around_at, main_piece, main_leaves, container_named, containers_of, operands_of, do_code, do_depth, taking, of_instance, uniforms_code}
 use Rattle.sk_meaning.specs.Expressions.{meaning_of, values_of}
 use Rattle.sk_names.specs.Bindings.{bound_to}
@@ -48,22 +50,6 @@ use Rattle.sk_tree.specs.declared.tree.What.TheOpen as what
 use Rattle.sk_world.specs.Calls.{Instance, call_of, converted, given_of, functions_of, operand_count, operands_in, ran_call, sizes_of}
 use Rattle.sk_world.specs.Events.{CallOf}
 use Rattle.sk_world.specs.World.{Container, World, Over, Trapped, container_at, settings_in}
-
-module _ {A B : Type 0} (f : A → B) where
-  take-map : (n : ℕ) (xs : List A) → take n (map f xs) ≡ map f (take n xs)
-  take-map zero xs = refl
-  take-map (suc n) [] = refl
-  take-map (suc n) (x ∷ xs) = ap (λ l. f x ∷ l) (take-map n xs)
-
-  drop-map : (n : ℕ) (xs : List A) → drop n (map f xs) ≡ map f (drop n xs)
-  drop-map zero xs = refl
-  drop-map (suc n) [] = refl
-  drop-map (suc n) (x ∷ xs) = drop-map n xs
-
-size-dropped : {A : Type 0} → (n m : ℕ) (xs : List A) → length xs ≡ n + m → length (drop n xs) ≡ m
-size-dropped zero m xs e = e ∙ omega arith
-size-dropped (suc n) m [] e = absurd (omega (arith, e))
-size-dropped (suc n) m (x ∷ xs) e = size-dropped n m xs (omega (arith, e))
 
 -- what holds of all instructions holds of one that stands at an address
 all_at : (test : Instr → Bool) (is : List Instr) (at : ℕ) (i : Instr) → list_all test is ≡ true → slice_get is at ≡ Some i → test i ≡ true
@@ -138,21 +124,23 @@ module _ (object : Object) (functions : List (List ℕ × Known)) (judgements : 
   number_same n m slots bound h e = absurd h
 
   -- an argument that is a container
-  one_number : (st : Standing) (values : Scope) (slots : List ℤ) (bound : ℕ) → Agree object st.scope values slots bound → (e : Expr) → names_whole (around_at functions st) e ≡ true
+  one_number : (st : Standing) (values : Scope) (slots : List ℤ) (bound : ℕ) → Agree object st.scope values slots bound → (ty : Ty) (e : Expr) → names_whole (around_at functions st) ty e ≡ true
       → container_named (around_at functions st) (main_piece e).name ≡ number_in values (name_of e)
-  one_number st values slots bound agree (expression.Name name) whole =
+  one_number st values slots bound agree ty (expression.Name name) whole =
       ap (λ (p : Piece Around). container_named (around_at functions st) p.name) (folds-Name (piece_step main_leaves) name)
-      ∙ number_same (bound_to name st.scope) (bound_to name values) slots bound (name_found object name st.scope values slots bound agree) whole
-  one_number st values slots bound agree e whole = let no : ⊥ = cc in absurd no
+      ∙ number_same (bound_to name st.scope) (bound_to name values) slots bound (name_found object name st.scope values slots bound agree) (whole_is ty (bound_to name st.scope) whole)
+  one_number st values slots bound agree ty e whole = let no : ⊥ = cc in absurd no
 
   -- the containers of a call
-  numbers_same : (st : Standing) (values : Scope) (slots : List ℤ) (bound : ℕ) → Agree object st.scope values slots bound → (es : List Expr) → all_whole (around_at functions st) es ≡ true
+  numbers_same : (st : Standing) (values : Scope) (slots : List ℤ) (bound : ℕ) → Agree object st.scope values slots bound → (types : List Ty) (es : List Expr) → all_whole (around_at functions st) types es ≡ true
       → containers_of (around_at functions st) (map main_piece es) ≡ map (λ expr. number_in values (name_of expr)) es
-  numbers_same st values slots bound agree [] whole = refl
-  numbers_same st values slots bound agree (e ∷ es) whole =
+  numbers_same st values slots bound agree [] [] whole = refl
+  numbers_same st values slots bound agree [] (e ∷ es) whole = let no : ⊥ = cc in absurd no
+  numbers_same st values slots bound agree (ty ∷ types) [] whole = let no : ⊥ = cc in absurd no
+  numbers_same st values slots bound agree (ty ∷ types) (e ∷ es) whole =
       let a : Around = around_at functions st in
-      ap (λ n. n ∷ containers_of a (map main_piece es)) (one_number st values slots bound agree e (and_left (names_whole a e) (all_whole a es) whole))
-      ∙ ap (λ (l : List ℕ). number_in values (name_of e) ∷ l) (numbers_same st values slots bound agree es (and_right (names_whole a e) (all_whole a es) whole))
+      ap (λ n. n ∷ containers_of a (map main_piece es)) (one_number st values slots bound agree ty e (and_left (names_whole a ty e) (all_whole a types es) whole))
+      ∙ ap (λ (l : List ℕ). number_in values (name_of e) ∷ l) (numbers_same st values slots bound agree types es (and_right (names_whole a ty e) (all_whole a types es) whole))
 
   -- the instruction finds its uniform arguments
   do_found : (made : Made) (plan : Plan) → slice_get object.instances made.number ≡ Some plan → (result : ℕ) (operands : List ℕ) (count : ℕ) (given : List ℤ) → count ≡ length given
@@ -246,7 +234,7 @@ module _ (object : Object) (functions : List (List ℕ × Known)) (judgements : 
           let a : Around = around_at functions st in
           let ops : ℕ = operands_of made in
           let types : List Ty = uniforms_taken made.skeleton made.elements made.kinds in
-          let wholes : Bool = all_whole a (result ∷ take ops rest) in
+          let wholes : Bool = all_whole a (container_types made) (result ∷ take ops rest) in
           let counts : Bool = length (result ∷ rest) == suc ops + length types in
           let fit1 = and_left wholes counts (and_left (wholes && counts) (all_fit (map fits (drop ops rest)) a) fit) in
           let fit2 = same_number (length (result ∷ rest)) (suc ops + length types) (and_right wholes counts (and_left (wholes && counts) (all_fit (map fits (drop ops rest)) a) fit)) in
@@ -255,7 +243,7 @@ module _ (object : Object) (functions : List (List ℕ × Known)) (judgements : 
           let dropped : drop ops (map main_piece rest) ≡ map main_piece (drop ops rest) = drop-map main_piece ops rest in
           let numbers : containers_of a (main_piece result ∷ take ops (map main_piece rest)) ≡ number_in state.scope (name_of result) ∷ map (λ expr. number_in state.scope (name_of expr)) (take ops rest) =
           ap (λ (l : List (Piece Around)). containers_of a (main_piece result ∷ l)) (take-map main_piece ops rest)
-          ∙ numbers_same st state.scope slots (length st.slots) is.agree (result ∷ take ops rest) fit1 in
+          ∙ numbers_same st state.scope slots (length st.slots) is.agree (container_types made) (result ∷ take ops rest) fit1 in
           let result_number : ℕ = number_in state.scope (name_of result) in
           subst (λ k. HasAt object.main.instrs st.at (code_for (Some (Called made)) (result ∷ rest) a st.at)
           → Runs object functions slots st.at [] state.world (st.at + length (code_for (Some (Called made)) (result ∷ rest) a st.at)) st.scope (length st.slots)
@@ -279,7 +267,7 @@ module _ (object : Object) (functions : List (List ℕ × Known)) (judgements : 
       no_arguments (Some (Called made)) fit =
           let counts : Bool = 0 == suc (operands_of made) + length (uniforms_taken made.skeleton made.elements made.kinds) in
           let e = same_number 0 (suc (operands_of made) + length (uniforms_taken made.skeleton made.elements made.kinds))
-          (and_right (all_whole (around_at functions st) []) counts (and_left (all_whole (around_at functions st) [] && counts) (all_fit [] (around_at functions st)) fit)) in
+          (and_right (all_whole (around_at functions st) (container_types made) []) counts (and_left (all_whole (around_at functions st) (container_types made) [] && counts) (all_fit [] (around_at functions st)) fit)) in
           omega (arith, e)
       no_arguments (Some (Number slot ty)) fit = let no : ⊥ = cc in no
       no_arguments (Some (Whole container ty)) fit = let no : ⊥ = cc in no

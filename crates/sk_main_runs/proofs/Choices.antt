@@ -4,6 +4,8 @@ use Rattle.std.specs.Prelude.{true, false, ◌&&◌, if◌then◌else◌}
 use Rattle.sk_isa.specs.declared.code.Instr.{Instr}
 use Rattle.sk_isa.specs.declared.code.Instr.TheVariants as instr
 use Rattle.sk_isa.specs.declared.object.Object.{Object}
+use Rattle.sk_main_fits.specs.Fits.{fits}
+use Rattle.sk_main_fits.specs.StatementFits.{Judged, Test, all_emits, sequence_fits, judge_step, judged_by, behind_line, behind_test, if_fits}
 use Rattle.sk_main_run.specs.MainNames.{State, main_names, evaluated}
 use Rattle.sk_main_run.specs.MainRun.{Running, Numbers, Numbered, plus, all_declared, and_run, in_block, running_step}
 use Rattle.sk_main_run.specs.MainRunLaws.{at_line}
@@ -14,8 +16,6 @@ use Rattle.sk_main_runs.proofs.Flows.{Runs, runs_before, runs_wider, runs_value,
 use Rattle.sk_main_runs.proofs.Runs.{IsLike, like_same}
 use Rattle.sk_main_runs.proofs.StatementNodes.{Holds, IsAt, Does, Follows, Keeps, holds_before, at_next, counted_does, value_gives}
 use Rattle.sk_main_runs.proofs.Tidy.{tidy_like}
-use Rattle.sk_main_runs.specs.Fits.{fits}
-use Rattle.sk_main_runs.specs.StatementFits.{Judged, Test, all_emits, sequence_fits, judge_step, judged_by, behind_line, behind_test, if_fits}
 use Rattle.sk_main_scheme.specs.MainScheme.{Around, Named, Standing, Emitted, Emitting, around_at, block_emitted, if_emitted, placed_behind, main_piece}
 use Rattle.sk_main_scheme.specs.MainScheme as scheme
 use Rattle.sk_meaning.specs.Expressions.{holds, meaning_of}

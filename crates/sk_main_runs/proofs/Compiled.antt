@@ -1,6 +1,6 @@
 -- The object that a program is compiled to has the program's functions, instances and main, with all marks.
-use Rattle.std.proofs.Common.{◌≡◌, ℕ, zero, suc, ◌+◌, ◌-◌, List, [], ◌∷◌, ◌++◌, length, map, reverse, Option, Some, None, refl, sym, ap, ◌∙◌, subst, arith}
-use Rattle.std.proofs.lemmas.List.{length-reverse, length-take-le, reverse-append}
+use Rattle.std.proofs.Common.{◌≡◌, ℕ, zero, suc, ◌+◌, List, [], ◌∷◌, ◌++◌, length, map, reverse, Option, Some, None, refl, sym, ap, ◌∙◌, subst, arith}
+use Rattle.std.proofs.lemmas.List.{length-reverse, reverse-append}
 use Rattle.std.proofs.lemmas.Option.{slice_get-map}
 use Rattle.std.specs.List.{list_all}
 use Rattle.std.specs.Option.{option_map}
@@ -9,8 +9,11 @@ use Rattle.sk_isa.specs.Objects.{function_at, is_marked, no_signature, signature
 use Rattle.sk_isa.specs.declared.object.Object.{Object}
 use Rattle.sk_isa.specs.declared.object.Signature.{Signature}
 use Rattle.sk_main_code.specs.MainSoundness.{names_in_main}
-use Rattle.sk_main_runs.specs.RunsAlike.{judgements_in, known_in, main_of}
-use Rattle.sk_main_runs.specs.Vectors.{IsCompiledFrom, IsMapOf, IsOfVectors, IsPlanOf}
+use Rattle.sk_main_fits.specs.Mains.{known_in, main_of}
+use Rattle.sk_main_fits.specs.Vectors.{IsMapOf, IsOfVectors}
+use Rattle.sk_main_names.proofs.Functions.{main_is}
+use Rattle.sk_main_runs.specs.RunsAlike.{judgements_in}
+use Rattle.sk_main_runs.specs.Vectors.{IsCompiledFrom, IsPlanOf}
 use Rattle.sk_main_scheme.specs.MainScheme.{Emitted, main_emitted}
 use Rattle.sk_main_scheme.specs.Objects.{object_of, offering}
 use Rattle.sk_names.specs.Bindings.{bound_to}
@@ -105,13 +108,6 @@ module _ (program : Program) where
   abbrev before : List Function
   before = functions_before_main program
 
-  count_is : length (functions_before_main program) ≡ length program.functions - 1
-  count_is = length-take-le (length program.functions - 1) program.functions (omega arith)
-
-  -- main by its place
-  main_is : main_emitted (known_functions (functions_before_main program)) (body_of (slice_get program.functions (length (functions_before_main program)))) ≡ main_of program
-  main_is = ap (λ n. main_emitted (known_functions (functions_before_main program)) (body_of (slice_get program.functions n))) count_is
-
   signature_is : (number : ℕ) (function : Function) → slice_get (functions_before_main program) number ≡ Some function
       → ((signature_at (object_of program) number).params ≡ kinds_of function.params) × ((signature_at (object_of program) number).ret ≡ function.ret)
   signature_is number function e =
@@ -147,7 +143,7 @@ module _ (program : Program) where
   plan_is number instance e m =
       let known : List (List ℕ × Known) = known_in program in
       let list : List instances.Instance = (main_emitted (known_functions (functions_before_main program)) (body_of (slice_get program.functions (length (functions_before_main program))))).behind.instances in
-      let e1 : slice_get list number ≡ Some instance = ap (λ (x : Emitted). slice_get x.behind.instances number) main_is ∙ e in
+      let e1 : slice_get list number ≡ Some instance = ap (λ (x : Emitted). slice_get x.behind.instances number) (main_is program) ∙ e in
       let e2 : slice_get (map (plan_of known) list) number ≡ Some (plan_of known instance) = slice_get-map (plan_of known) list number ∙ ap (option_map (plan_of known)) e1 in
       let bare : Object = record (object_of program) { instances = map (plan_of known) list } in
       let e3 : slice_get (object_of program).instances number ≡ Some (offering bare (plan_of known instance)) =
@@ -173,9 +169,9 @@ module _ (program : Program) where
   -- the object of a program of vectors, where its functions mean what their sources mean and main names what is there
   pub compiled_from : IsOfVectors program → MeansSource program (object_of program) → list_all (names_in_main (object_of program)) (object_of program).main.instrs ≡ true → IsCompiledFrom program (object_of program)
   compiled_from vectors means names = record {
-    code = ap (λ (x : Emitted). x.code) main_is;
-    slots = ap (λ (x : Emitted). length x.behind.slots) main_is;
-    containers = ap (λ (x : Emitted). x.behind.containers) main_is;
+    code = ap (λ (x : Emitted). x.code) (main_is program);
+    slots = ap (λ (x : Emitted). length x.behind.slots) (main_is program);
+    containers = ap (λ (x : Emitted). x.behind.containers) (main_is program);
     names = names;
     means = means;
     signatures = record { each = signature_is };

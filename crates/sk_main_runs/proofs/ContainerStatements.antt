@@ -11,6 +11,9 @@ use Rattle.sk_isa.specs.declared.code.Instr.{Instr}
 use Rattle.sk_isa.specs.declared.code.Instr.TheVariants as instr
 use Rattle.sk_isa.specs.declared.object.Object.{Object}
 use Rattle.sk_main_code.specs.MainSteps.{MainNext, MainPoint, going_in, last_of, next_in_main}
+use Rattle.sk_main_fits.specs.Fits.{fits, all_fit, is_whole}
+use Rattle.sk_main_fits.specs.StatementFits.{Judged, Test, judge_step, behind_line}
+use Rattle.sk_main_names.proofs.Tests.{IsPoked, fit_drop, fit_take, made_few, poked_parts, same_number}
 use Rattle.sk_main_run.specs.MainNames.{Meant, State, main_names, number_in, all_evaluated, evaluated, in_state}
 use Rattle.sk_main_run.specs.MainNames as tree
 use Rattle.sk_main_run.specs.MainRun.{Running, Numbers, Numbered, and_run, in_world, declaring, fill_of, running_step}
@@ -21,11 +24,9 @@ use Rattle.sk_main_runs.proofs.Flows.{Runs, runs_after, runs_counted, runs_in_wo
 use Rattle.sk_main_runs.proofs.Names.{name_found}
 use Rattle.sk_main_runs.proofs.Runs.{IsLike, like_same, like_on, stands, Finishes, Leads, leads_on, step, leads_same, Gives}
 use Rattle.sk_main_runs.proofs.StatementNodes.{append-none, IsAt, Does, Follows, keeps_same, is_counted, counted_does, wanted_value}
-use Rattle.sk_main_runs.proofs.Tidy.{same_number, tidy_like, zero-in_range}
+use Rattle.sk_main_runs.proofs.Tidy.{tidy_like, zero-in_range}
 use Rattle.sk_main_runs.proofs.Values.{at-seam, places_give, pushed-last, values-append, values_then}
-use Rattle.sk_main_runs.specs.Fits.{fits, all_fit, is_whole}
 use Rattle.sk_main_runs.specs.SameMeaning.{AreNamed}
-use Rattle.sk_main_runs.specs.StatementFits.{Judged, Test, judge_step, behind_line}
 use Rattle.sk_main_scheme.specs.MainScheme.{Around, Named, Number, Whole, Called, Standing, Emitting, around_at, main_piece, make_code, container_named, named_type, poke_code, taking}
 use Rattle.sk_meaning.specs.Expressions.{meaning_of, values_of, then_do}
 use Rattle.sk_names.specs.Bindings.{bound_to}
@@ -45,19 +46,6 @@ take-whole vs us n e = subst (λ k. take k (vs ++ us) ≡ vs) e (take-append_sea
 
 drop-whole : (vs us : List ℤ) (n : ℕ) → length vs ≡ n → drop n (vs ++ us) ≡ us
 drop-whole vs us n e = subst (λ k. drop k (vs ++ us) ≡ us) e (drop-append_seam vs us)
-
-fit-take : (around : Around) (n : ℕ) (es : List Expr) → all_fit (map fits es) around ≡ true → all_fit (map fits (take n es)) around ≡ true
-fit-take around zero es e = refl
-fit-take around (suc n) [] e = refl
-fit-take around (suc n) (x ∷ es) e = both (fits x around) (all_fit (map fits (take n es)) around) (and_left (fits x around) (all_fit (map fits es) around) e) (fit-take around n es (and_right (fits x around) (all_fit (map fits es) around) e))
-  where
-    both : (a b : Bool) → a ≡ true → b ≡ true → (a && b) ≡ true
-    both a b e f = ap (λ c. c && b) e ∙ f
-
-fit-drop : (around : Around) (n : ℕ) (es : List Expr) → all_fit (map fits es) around ≡ true → all_fit (map fits (drop n es)) around ≡ true
-fit-drop around zero es e = e
-fit-drop around (suc n) [] e = refl
-fit-drop around (suc n) (x ∷ es) e = fit-drop around n es (and_right (fits x around) (all_fit (map fits es) around) e)
 
 size_taken : (n : ℕ) (es : List Expr) → n ≤ length es → length (take n es) ≡ n
 size_taken zero es le = refl
@@ -221,8 +209,8 @@ module _ (object : Object) (functions : List (List ℕ × Known)) (judgements : 
     does = λ st state before slots fit is held room has.
         let st1 : Standing = behind_line st in
         let a : Around = around_at functions st1 in
-        let count : Bool = length arguments == kind || length arguments == suc kind in
-        let few = few_arguments kind arguments (and_left count (all_fit (map fits arguments) a) fit) in
+        let count : Bool = (kind == 1) && (length arguments == 1 || length arguments == 2) in
+        let few = few_arguments kind arguments (made_few kind (length arguments) (and_left count (all_fit (map fits arguments) a) fit)) in
         let fine = and_right count (all_fit (map fits arguments) a) fit in
         let sizes : List Expr = take kind arguments in
         let filling : List Expr = drop kind arguments in
@@ -247,7 +235,7 @@ module _ (object : Object) (functions : List (List ℕ × Known)) (judgements : 
         let values_are : values_of (map meaning_of arguments) (main_names s1) world ≡ values_then (values_of (map meaning_of sizes) (main_names s1) world) (values_of (map meaning_of filling) (main_names s1)) =
         sym (ap (λ (l : List Expr). values_of (map meaning_of l) (main_names s1) world) split) ∙ values-append sizes filling (main_names s1) world in
         let made : IsMade ty (length sizes) slots st1.at world (st1.at + length (make_code_of ty sizes filling a st1.at)) (values_then (values_of (map meaning_of sizes) (main_names s1) world) (values_of (map meaning_of filling) (main_names s1))) =
-        made_values ty sizes filling st1 s1 before slots few.1 (fit-take a kind arguments fine) (fit-drop a kind arguments fine) is1 st1.at (has_front object.main.instrs st1.at code (last ∷ []) has1) in
+        made_values ty sizes filling st1 s1 before slots few.1 (fit_take a kind arguments fine) (fit_drop a kind arguments fine) is1 st1.at (has_front object.main.instrs st1.at code (last ∷ []) has1) in
         let made2 = subst (λ k. IsMade ty k slots st1.at world at1 (values_then (values_of (map meaning_of sizes) (main_names s1) world) (values_of (map meaning_of filling) (main_names s1)))) sized made in
         let made3 = subst (λ (o : Result (List ℤ × World) Over). IsMade ty kind slots st1.at world at1 o) (sym values_are) made2 in
         makes kind ty name st s1 before slots is1 declared there there2 refl refl st1.at at1 end (values_of (map meaning_of arguments) (main_names s1) world) made3
@@ -291,15 +279,17 @@ module _ (object : Object) (functions : List (List ℕ × Known)) (judgements : 
   poke_emits name places e = taking (poke_code name places e) (parts_depth (map main_piece (places ++ e ∷ []))) (λ around standing. instr.Poke (container_named around name) (length places) ∷ [])
 
   abbrev poke_test : List ℕ → List Expr → Expr → Test
-  poke_test name places e fs st = is_whole (bound_to name st.scope) && all_fit (map fits places) (around_at fs st) && fits e (around_at fs st)
+  poke_test name places e fs st =
+      is_whole (bound_to name st.scope) && (length places == 1) && all_fit (map fits places) (around_at fs st) && fits e (around_at fs st)
 
   poke_does : (name : List ℕ) (places : List Expr) (e : Expr) → Does object functions judgements (poke_run name places e) (poke_emits name places e) (poke_test name places e)
   poke_does name places e st state before slots fit is held room has =
       by_named (bound_to name st.scope) (bound_to name state.scope) (name_found object name st.scope state.scope slots (length st.slots) is.agree)
-      (and_left (is_whole (bound_to name st.scope)) (all_fit (map fits places) (around_at functions st)) (and_left (is_whole (bound_to name st.scope) && all_fit (map fits places) (around_at functions st)) (fits e (around_at functions st)) fit))
-      (and_right (is_whole (bound_to name st.scope)) (all_fit (map fits places) (around_at functions st)) (and_left (is_whole (bound_to name st.scope) && all_fit (map fits places) (around_at functions st)) (fits e (around_at functions st)) fit))
-      (and_right (is_whole (bound_to name st.scope) && all_fit (map fits places) (around_at functions st)) (fits e (around_at functions st)) fit) has
+      p.whole p.places p.value has
     where
+      p : IsPoked (is_whole (bound_to name st.scope)) (length places) (all_fit (map fits places) (around_at functions st)) (fits e (around_at functions st))
+      p = poked_parts (is_whole (bound_to name st.scope)) (length places) (all_fit (map fits places) (around_at functions st)) (fits e (around_at functions st)) fit
+
       by_named : (n : Option Named) (m : Option Meant) → AreNamed object n m slots (length st.slots) → is_whole n ≡ true → all_fit (map fits places) (around_at functions st) ≡ true → fits e (around_at functions st) ≡ true
           → HasAt object.main.instrs st.at (then_code (places_code (map main_piece places) (around_at functions st) st.at) (wanted_code (type_named n) (main_piece e) (around_at functions st)) st.at ++ instr.Poke (whole_named n) (length places) ∷ [])
           → Runs object functions slots st.at [] state.world

@@ -11,7 +11,8 @@ use Rattle.sk_base.specs.declared.number.Trap.TheVariants.{Index, Shape}
 use Rattle.sk_base.specs.declared.number.Ty.{Ty}
 use Rattle.sk_base.specs.declared.number.Ty.TheVariants.{Int}
 use Rattle.sk_isa.specs.declared.object.Object.{Object}
-use Rattle.sk_main_runs.proofs.Tidy.{found_passes, same_number}
+use Rattle.sk_main_names.proofs.Tests.{same_number}
+use Rattle.sk_main_runs.proofs.Tidy.{found_passes}
 use Rattle.sk_main_runs.proofs.Values.{wrapped-twice}
 use Rattle.sk_main_runs.specs.SameMeaning.{IsHeld, IsTidy}
 use Rattle.sk_plain.proofs.Truths.{some_same}

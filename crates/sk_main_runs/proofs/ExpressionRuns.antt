@@ -11,6 +11,8 @@ use Rattle.sk_isa.specs.Objects.{signature_at, invoked}
 use Rattle.sk_isa.specs.declared.code.Instr.{Instr}
 use Rattle.sk_isa.specs.declared.code.Instr.TheVariants as instr
 use Rattle.sk_isa.specs.declared.object.Object.{Object}
+use Rattle.sk_main_fits.specs.Fits.{Fit, fits, fit_step, all_fit, applied_fits, is_whole}
+use Rattle.sk_main_names.proofs.Tests.{same_number}
 use Rattle.sk_main_run.specs.MainNames.{Meant, State, main_names, scalar_of}
 use Rattle.sk_main_run.specs.MainNames as tree
 use Rattle.sk_main_runs.proofs.Arguments.{IsGiven, GivesMany, more_gives, same_gives, many_found, applied_gives}
@@ -18,14 +20,14 @@ use Rattle.sk_main_runs.proofs.ExpressionNodes.{prefix_gives, wanted_gives, push
 use Rattle.sk_main_runs.proofs.Leaves.{loads, method_type_is, name_type_is, sizes}
 use Rattle.sk_main_runs.proofs.Names.{name_found}
 use Rattle.sk_main_runs.proofs.Runs.{IsLike, like_same, like_on, stands, leads_same, Gives, widened}
-use Rattle.sk_main_runs.proofs.Tidy.{tidy_like, read_given, same_number}
-use Rattle.sk_main_runs.specs.Fits.{Fit, fits, fit_step, all_fit, applied_fits}
+use Rattle.sk_main_runs.proofs.Tidy.{tidy_like, read_given}
 use Rattle.sk_main_runs.specs.SameMeaning.{Agree, AreNamed, AreFunction, FunctionsAgree, IsTidy, fitted}
 use Rattle.sk_main_scheme.specs.MainScheme.{Around, Named, Number, Whole, Called, main_piece, main_leaves, applied_code, applied_type}
 use Rattle.sk_meaning.specs.Evaluation.{Callable, Value, kind_type, value_of}
 use Rattle.sk_meaning.specs.Expressions.{ExpressionMeaning, meaning_of, meaning_step, values_of, then_do, raised, wider, operation_type, result_type, prefix_type, prefix_of}
 use Rattle.sk_names.specs.Bindings.{bound_to}
 use Rattle.sk_plain.proofs.Parts.{exprs_of}
+use Rattle.sk_tree.specs.Parameters.{is_container_method}
 use Rattle.sk_plain.proofs.Truths.{and_left, and_right}
 use Rattle.sk_scheme.specs.Pieces.{Piece, narrowed, prefix_code, piece_step, wanted_code, places_code, arguments_code}
 use Rattle.sk_scheme.specs.Scheme.{Known}
@@ -95,7 +97,8 @@ module _ (object : Object) (functions : List (List ℕ × Known)) where
   method_compiled name method = record {
     ty = λ s fit. method_type_is object (bound_to name s.scope) method;
     gives = λ s fit at stack world like has.
-        sizes object (bound_to name s.scope) (bound_to name s.state.scope) s.slots s.bound method (named_at s name) fit s.state.world at stack world like
+        sizes object (bound_to name s.scope) (bound_to name s.state.scope) s.slots s.bound method (named_at s name)
+        (and_left (is_whole (bound_to name s.scope)) (is_container_method 1 method) fit) s.state.world at stack world like
         (tidy_like object s.state.world world like s.tidy) has;
   }
 
@@ -285,7 +288,7 @@ module _ (object : Object) (functions : List (List ℕ × Known)) where
       applied_gives object ty (λ vs. vs) (length ys) s.slots at stack world code last
       (values_of (map meaning_of (exprs_of ys)) (main_names s.state) world) (λ values w. read number values w)
       (has_back object.main.instrs at code (last ∷ []) has).0
-      (places_compiled ys s fit at stack world like (has_front object.main.instrs at code (last ∷ []) has))
+      (places_compiled ys s (and_right (length (parts_fit ys) == 1) (all_fit (parts_fit ys) (around_of s)) fit) at stack world like (has_front object.main.instrs at code (last ∷ []) has))
       (λ values w size like2. (
         many_found object values stack (length (pieces ys)) (λ place rest. returning (stands (at + length code) (reverse values ++ stack) s.slots w) rest (read container place w)) (pieces-length ys ∙ sym size)
             ∙ ap (λ c. returning (stands (at + length code) (reverse values ++ stack) s.slots w) stack (read c values w)) (sym h.number_is),

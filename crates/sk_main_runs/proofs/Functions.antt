@@ -8,10 +8,11 @@ use Rattle.sk_base.specs.declared.number.Trap.{Trap}
 use Rattle.sk_base.specs.declared.number.Ty.{Ty}
 use Rattle.sk_isa.specs.Soundness.{SuitParams}
 use Rattle.sk_isa.specs.declared.object.Object.{Object}
+use Rattle.sk_main_fits.specs.Vectors.{takes_scalars}
 use Rattle.sk_main_runs.proofs.Tidy.{zero-in_range}
 use Rattle.sk_main_runs.proofs.Values.{wrapped-twice}
 use Rattle.sk_main_runs.specs.SameMeaning.{AreFunction, FunctionsAgree, IsFunction, fitted}
-use Rattle.sk_main_runs.specs.Vectors.{HasSignatures, takes_scalars}
+use Rattle.sk_main_runs.specs.Vectors.{HasSignatures}
 use Rattle.sk_meaning.specs.Evaluation.{Argument, Binding, Callable, Callables, Flow, Going, Returned, Scope, Value, argument_binding, apply_of, callable_of, callables_after, callables_of, in_sequence, doing_of, returned, scope_of, turn_limit, value_of, value_only}
 use Rattle.sk_meaning.specs.Evaluation as meaning
 use Rattle.sk_names.specs.Bindings.{bound_to}

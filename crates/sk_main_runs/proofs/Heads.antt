@@ -3,6 +3,7 @@ use Rattle.std.proofs.Common.{ℕ, ◌+◌, List, [], ◌∷◌, ◌++◌, lengt
 use Rattle.std.specs.Prelude.{◌&&◌, Ok}
 use Rattle.sk_isa.specs.declared.code.Instr.{Instr}
 use Rattle.sk_isa.specs.declared.object.Object.{Object}
+use Rattle.sk_main_fits.specs.StatementFits.{Judged, judge_step, loop_fits}
 use Rattle.sk_main_run.specs.MainNames.{Meant, State}
 use Rattle.sk_main_run.specs.MainNames as tree
 use Rattle.sk_main_run.specs.MainRun.{Numbers, Numbered, plus, all_declared, and_run, in_block, left_block, looped, linked, declaring, running_step}
@@ -14,7 +15,6 @@ use Rattle.sk_main_runs.proofs.Flows.{runs_then, runs_counted, runs_nothing}
 use Rattle.sk_main_runs.proofs.Loops.{loop_at, loop_size, loop_runs, body_stands, body_at, step_at, ends}
 use Rattle.sk_main_runs.proofs.StatementNodes.{append-none, Holds, Follows, Keeps, holds_before, at_next, is_counted}
 use Rattle.sk_main_runs.specs.SameMeaning.{Agree, IsInstance}
-use Rattle.sk_main_runs.specs.StatementFits.{Judged, judge_step, loop_fits}
 use Rattle.sk_main_scheme.specs.MainScheme.{Named, Called, Standing, Emitted, made_of}
 use Rattle.sk_plain.proofs.Lists.{slice_get-seam}
 use Rattle.sk_plain.proofs.Truths.{and_left, and_right}

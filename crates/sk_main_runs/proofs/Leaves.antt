@@ -6,11 +6,11 @@ use Rattle.sk_isa.specs.Configurations.{Goes, Stuck}
 use Rattle.sk_isa.specs.declared.code.Instr.TheVariants as instr
 use Rattle.sk_isa.specs.declared.object.Object.{Object}
 use Rattle.sk_main_code.specs.MainSteps.{MainNext}
+use Rattle.sk_main_fits.specs.Fits.{is_number, is_whole}
 use Rattle.sk_main_run.specs.MainNames.{Meant, State, main_names, scalar_of}
 use Rattle.sk_main_run.specs.MainNames as tree
 use Rattle.sk_main_runs.proofs.Runs.{IsLike, stands, Gives, one_gives}
 use Rattle.sk_main_runs.proofs.Tidy.{size-in_range}
-use Rattle.sk_main_runs.specs.Fits.{is_number, is_whole}
 use Rattle.sk_main_runs.specs.SameMeaning.{AreNamed, IsTidy}
 use Rattle.sk_main_scheme.specs.MainScheme.{Named, Number, Whole, Called, name_leaf, method_leaf}
 use Rattle.sk_scheme_runs.proofs.Runs.{HasAt}

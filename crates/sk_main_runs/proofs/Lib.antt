@@ -6,7 +6,6 @@ pub mod Choices
 pub mod Compiled
 pub mod ContainerStatements
 pub mod Containers
-pub mod Emission
 pub mod Ends
 pub mod ExpressionNodes
 pub mod ExpressionRuns

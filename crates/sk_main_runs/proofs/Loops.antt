@@ -4,6 +4,8 @@ use Rattle.std.specs.Prelude.{slice_get, true, false, Bool, ◌&&◌, if◌then�
 use Rattle.sk_isa.specs.declared.code.Instr.{Instr}
 use Rattle.sk_isa.specs.declared.code.Instr.TheVariants as instr
 use Rattle.sk_isa.specs.declared.object.Object.{Object}
+use Rattle.sk_main_fits.specs.Fits.{fits}
+use Rattle.sk_main_fits.specs.StatementFits.{Judged, all_emits, sequence_fits, behind_loop_test, loop_fits}
 use Rattle.sk_main_run.specs.MainNames.{Scope, State, main_names, evaluated}
 use Rattle.sk_main_run.specs.MainRun.{Running, Numbers, Numbered, plus, all_declared, and_run, in_block, looped}
 use Rattle.sk_main_runs.proofs.Agreement.{agree_wider, agree_lower}
@@ -13,9 +15,7 @@ use Rattle.sk_main_runs.proofs.Flows.{Runs, runs_after, runs_then, runs_value, r
 use Rattle.sk_main_runs.proofs.Runs.{like_same}
 use Rattle.sk_main_runs.proofs.StatementNodes.{Holds, IsAt, Follows, holds_before, at_next, value_gives}
 use Rattle.sk_main_runs.proofs.Tidy.{tidy_like}
-use Rattle.sk_main_runs.specs.Fits.{fits}
 use Rattle.sk_main_runs.specs.SameMeaning.{Agree, FunctionsAgree, IsHeld, IsTidy}
-use Rattle.sk_main_runs.specs.StatementFits.{Judged, all_emits, sequence_fits, behind_loop_test, loop_fits}
 use Rattle.sk_main_scheme.specs.MainScheme.{Named, Standing, Emitted, around_at, block_emitted, loop_emitted, main_piece}
 use Rattle.sk_meaning.specs.Expressions.{holds, meaning_of}
 use Rattle.sk_plain.proofs.Truths.{and_left, and_right}

@@ -13,9 +13,10 @@ use Rattle.sk_base.specs.declared.number.Ty.TheVariants.{Int}
 use Rattle.sk_formula.specs.Calls.{Cells, Sizes, cells_outcome, refusal_of}
 use Rattle.sk_formula.specs.Elements.{TrapAt, at_element, mapped, with_last}
 use Rattle.sk_isa.specs.declared.object.Object.{Object}
+use Rattle.sk_main_names.proofs.Tests.{same_number}
 use Rattle.sk_main_runs.proofs.Containers.{tidy_put}
 use Rattle.sk_main_runs.proofs.MapArguments.{AreOf, HasScalars, IsOf, call_elements, call_uniforms, scalars_given}
-use Rattle.sk_main_runs.proofs.Tidy.{found_passes, same_number}
+use Rattle.sk_main_runs.proofs.Tidy.{found_passes}
 use Rattle.sk_main_runs.specs.SameMeaning.{IsHeld, IsLeft, IsTidy, fitted}
 use Rattle.sk_meaning.specs.Evaluation.{Argument, Value}
 use Rattle.sk_plain.proofs.Truths.{some_same}

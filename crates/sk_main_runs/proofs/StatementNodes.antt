@@ -5,6 +5,8 @@ use Rattle.std.specs.Prelude.{All, slice_get, true, false, ◌&&◌, Ok}
 use Rattle.sk_base.specs.declared.number.Ty.{Ty}
 use Rattle.sk_isa.specs.declared.code.Instr.{Instr}
 use Rattle.sk_isa.specs.declared.object.Object.{Object}
+use Rattle.sk_main_fits.specs.Fits.{fits}
+use Rattle.sk_main_fits.specs.StatementFits.{Judged, Test, all_emits, sequence_fits, behind_line}
 use Rattle.sk_main_run.specs.MainNames.{State, main_names}
 use Rattle.sk_main_run.specs.MainRun.{Running, Numbers, Numbered, none_declared, plus, all_declared, and_run, counted, in_sequence, in_block, left_block, linked}
 use Rattle.sk_main_runs.proofs.Agreement.{agree_length}
@@ -13,9 +15,7 @@ use Rattle.sk_main_runs.proofs.ExpressionNodes.{wanted_gives}
 use Rattle.sk_main_runs.proofs.ExpressionRuns.{expression_runs}
 use Rattle.sk_main_runs.proofs.Flows.{Runs, runs_then, runs_nothing, runs_counted}
 use Rattle.sk_main_runs.proofs.Runs.{IsLike, Gives}
-use Rattle.sk_main_runs.specs.Fits.{fits}
 use Rattle.sk_main_runs.specs.SameMeaning.{Agree, FunctionsAgree, IsHeld, IsInstance, IsTidy}
-use Rattle.sk_main_runs.specs.StatementFits.{Judged, Test, all_emits, sequence_fits, behind_line}
 use Rattle.sk_main_scheme.specs.MainScheme.{Named, Standing, Emitted, Emitting, around_at, all_emitted, block_emitted, then_emitted, dropped, main_piece, made_of}
 use Rattle.sk_main_scheme.specs.MainScheme as scheme
 use Rattle.sk_meaning.specs.Evaluation.{Callables}

@@ -4,6 +4,8 @@ use Rattle.std.specs.List.{list_all}
 use Rattle.std.specs.Prelude.{true, false}
 use Rattle.sk_isa.specs.declared.object.Object.{Object}
 use Rattle.sk_main_code.specs.MainSoundness.{names_in_main}
+use Rattle.sk_main_fits.specs.StatementFits.{Judged, all_emits, sequence_fits, judge_step, judged_of}
+use Rattle.sk_main_fits.proofs.Emission.{judged_what}
 use Rattle.sk_main_run.specs.MainRun.{Lineless, Numbered, all_declared, in_sequence, running_of, running_step}
 use Rattle.sk_main_run.specs.MainRunLaws.{at_line, running_what}
 use Rattle.sk_main_runs.proofs.CallStatements.{call_follows}
@@ -12,19 +14,14 @@ use Rattle.sk_main_runs.proofs.ContainerStatements.{make_follows, poke_follows}
 use Rattle.sk_main_runs.proofs.Heads.{for_follows, instance_follows}
 use Rattle.sk_main_runs.proofs.StatementNodes.{append-none, Follows, keeps_same, none_follows, pair_follows, block_follows}
 use Rattle.sk_main_runs.proofs.Statements.{assign_follows, declare_follows, print_follows, return_follows}
-use Rattle.sk_main_runs.specs.StatementFits.{Judged, all_emits, sequence_fits, judge_step, judged_of}
 use Rattle.sk_main_scheme.specs.MainScheme.{Whole, all_emitted}
 use Rattle.sk_plain.proofs.Parts.{statements_of, plain_level}
 use Rattle.sk_safety.specs.Safety.{Judgements}
 use Rattle.sk_scheme.specs.Scheme.{Known}
 use Rattle.sk_tree.specs.FoldLaws.{folds-What}
 use Rattle.sk_tree.specs.declared.tree.Statement.{Statement, Statement-F, roll-Statement, map-Statement, ind-Statement, fold-roll-Statement}
-use Rattle.sk_tree.specs.declared.tree.What.{What, What-F, roll-What, map-What, fold-What, fold-roll-What}
+use Rattle.sk_tree.specs.declared.tree.What.{What, What-F, roll-What, map-What, fold-roll-What}
 use Rattle.sk_tree.specs.declared.tree.What.TheOpen as what
-
--- a statement with what it is compiled to, apart from its line
-abbrev pub judged_what : What → ℕ → Judged
-judged_what = fold-What (ℕ → Judged) Judged judge_step (λ statement. statement.what statement.line)
 
 module _ (object : Object) (functions : List (List ℕ × Known)) (judgements : Judgements) (named : list_all (names_in_main object) object.main.instrs ≡ true) where
   abbrev pub IsFollowed : Statement → Type 0

@@ -8,6 +8,8 @@ use Rattle.sk_base.specs.declared.number.Ty.{Ty}
 use Rattle.sk_isa.specs.declared.code.Instr.{Instr}
 use Rattle.sk_isa.specs.declared.code.Instr.TheVariants as instr
 use Rattle.sk_isa.specs.declared.object.Object.{Object}
+use Rattle.sk_main_fits.specs.Fits.{fits, is_number}
+use Rattle.sk_main_fits.specs.StatementFits.{Judged, Test, judge_step, judged_by, behind_line, item_fits, items_fit}
 use Rattle.sk_main_run.specs.MainNames.{State, main_names, evaluated}
 use Rattle.sk_main_run.specs.MainNames as tree
 use Rattle.sk_main_run.specs.MainRun.{Running, Numbers, Numbered, none_declared, and_run, assigned, declaring, item_run, items_run, running_step}
@@ -17,9 +19,7 @@ use Rattle.sk_main_runs.proofs.Flows.{Runs, runs_nothing, runs_value, runs_count
 use Rattle.sk_main_runs.proofs.Runs.{like_same, stands, step, last_step}
 use Rattle.sk_main_runs.proofs.StatementNodes.{append-none, Does, Follows, keeps_same, pair_follows, is_counted, counted_does, value_gives, wanted_value}
 use Rattle.sk_main_runs.proofs.Tidy.{tidy_like}
-use Rattle.sk_main_runs.specs.Fits.{fits, is_number}
 use Rattle.sk_main_runs.specs.SameMeaning.{Agree}
-use Rattle.sk_main_runs.specs.StatementFits.{Judged, Test, judge_step, judged_by, behind_line, item_fits, items_fit}
 use Rattle.sk_main_scheme.specs.MainScheme.{Around, Named, Number, Whole, Called, Standing, Emitting, around_at, all_emitted, main_piece, named_type, store_code, type_in, item_emitted, taking}
 use Rattle.sk_meaning.specs.Expressions.{meaning_of}
 use Rattle.sk_names.specs.Bindings.{bound_to, rebound}

@@ -1,5 +1,5 @@
 -- Worlds whose containers hold cells of their types.
-use Rattle.std.proofs.Common.{◌≡◌, ℕ, zero, suc, ◌≤◌, rules, List, [], ◌∷◌, ℤ, pos, Option, Some, None, refl, sym, ap, ◌∙◌, subst, arith}
+use Rattle.std.proofs.Common.{◌≡◌, ℕ, zero, suc, ◌≤◌, List, [], ◌∷◌, ℤ, pos, Option, Some, None, refl, sym, ap, ◌∙◌, subst, arith}
 use Rattle.std.proofs.lemmas.List.Elements.{All-cons, All-head, All-tail}
 use Rattle.std.specs.Prelude.{All, true, false, Bool, if◌then◌else◌, ◌==◌, ◌^◌, find, slice_get, slice_index_or, codes}
 use Rattle.sk_base.specs.Arithmetic.{InRange}
@@ -7,6 +7,7 @@ use Rattle.sk_base.specs.Shape.{cells_of, flat_of}
 use Rattle.sk_base.specs.declared.number.Ty.{Ty}
 use Rattle.sk_base.specs.declared.number.Ty.TheVariants.{Int, Long}
 use Rattle.sk_isa.specs.declared.object.Object.{Object}
+use Rattle.sk_main_names.proofs.Tests.{same_number}
 use Rattle.sk_meaning.specs.Evaluation.{named}
 use Rattle.sk_names.specs.Bytes.{same_bytes}
 use Rattle.sk_main_runs.proofs.Arguments.{IsGiven}
@@ -21,9 +22,6 @@ use Rattle.sk_world.specs.World.{Container, World, container_at, container_in, r
 pub zero-in_range : (ty : Ty) → InRange ty (pos 0)
 zero-in_range Int = record { sfits = omega arith }
 zero-in_range Long = record { sfits = omega arith }
-
-pub same_number : (n m : ℕ) → (n == m) ≡ true → n ≡ m
-same_number n m e = search rules
 
 module _ {A : Type 0} (P : A → Type 0) where
   -- an element, or the value that stands for none

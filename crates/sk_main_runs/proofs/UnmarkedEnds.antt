@@ -9,12 +9,13 @@ use Rattle.sk_isa.specs.declared.object.Object.{Object}
 use Rattle.sk_isa.specs.declared.object.Plan.{Plan}
 use Rattle.sk_main_code.specs.MainSteps.{MainNext, coded_of, next_in_main, over_from}
 use Rattle.sk_main_means.specs.MainMeans.{IsSameRun}
+use Rattle.sk_main_names.proofs.Objects.{compiled_have_names}
 use Rattle.sk_main_runs.proofs.Runs.{stands}
 use Rattle.sk_main_runs.proofs.SameFunctions.{means_alike}
 use Rattle.sk_main_runs.proofs.UnmarkedRuns.{next-same}
 use Rattle.sk_main_runs.proofs.Untold.{untold, untold_over, untold_value, untold_next}
 use Rattle.sk_main_runs.proofs.VectorRuns.{compiled_vectors_run}
-use Rattle.sk_main_runs.specs.Unmarked.{ArePlans, IsUnmarked, StandingVectorsRunAsSource, UnmarkedRunAlike}
+use Rattle.sk_main_runs.specs.Unmarked.{ArePlans, IsUnmarked, StandingEndsAlike, StandingVectorsRunAsSource, UnmarkedRunAlike, VectorsRun}
 use Rattle.sk_main_scheme.specs.Objects.{AreSomePlans, object_of}
 use Rattle.sk_world.specs.Runs.{ProgramRun, world_before}
 use Rattle.sk_world.specs.World.{World, Over}
@@ -100,3 +101,25 @@ standing_vectors_run program vectors means names object stands_for inputs bound 
     subst (λ (run : ProgramRun). IsSameRun (coded_of object inputs bound dump) run)
     (compiled_vectors_run program vectors (means_alike program means) names inputs bound dump over)
     (unmarked_run object (object_of program) less inputs bound dump)
+
+pub standing_run : VectorsRun
+standing_run program vectors means object stands_for inputs bound dump over =
+    standing_vectors_run program vectors means (compiled_have_names program vectors) object stands_for inputs bound dump over
+
+-- ---- where a run is over
+
+ended_alike : (one other : Outcome World Over) → untold_outcome one ≡ untold_outcome other → (result : Result (ℤ × World) Over) → one ≡ Ended result → (r : Result (ℤ × World) Over) × (other ≡ Ended r)
+ended_alike one (Ended r) same result e = (r, refl)
+ended_alike one Unfinished same result e = let no : ⊥ = cc (same, ap untold_outcome e) in absurd no
+ended_alike one Lost same result e = let no : ⊥ = cc (same, ap untold_outcome e) in absurd no
+
+pub standing_ends : StandingEndsAlike
+standing_ends program object stands_for inputs bound over =
+    let all : Object = object_of program in
+    let less : IsUnmarked object all = record { same = stands_for.same; plans = plans-at object.instances all.instances stands_for.instances } in
+    let outcome : Object → Code → Outcome World Over = λ o code.
+    run_of (next_in_main o) code.instrs (step_limit code.instrs bound) (stands 0 [] (replicate code.slots (pos 0)) (world_before inputs bound)) in
+    let first : untold_outcome (outcome object object.main) ≡ untold_outcome (outcome all object.main) =
+    run-alike object.main.instrs (step_limit object.main.instrs bound) object all less 0 [] (replicate object.main.slots (pos 0)) (world_before inputs bound) in
+    let second : outcome all object.main ≡ outcome all all.main = ap (λ (o : Object). outcome all o.main) less.same in
+    ended_alike (outcome object object.main) (outcome all all.main) (first ∙ ap untold_outcome second) over.0 over.1

@@ -6,11 +6,11 @@ use Rattle.sk_base.specs.Arithmetic.{wrapped}
 use Rattle.sk_base.specs.ArithmeticLaws.{wrapped-in_range, wrapped-same}
 use Rattle.sk_base.specs.declared.number.Ty.{Ty}
 use Rattle.sk_isa.specs.declared.object.Object.{Object}
+use Rattle.sk_main_fits.specs.Fits.{fits, all_fit}
 use Rattle.sk_main_run.specs.MainNames.{main_names}
 use Rattle.sk_main_runs.proofs.Arguments.{GivesMany}
 use Rattle.sk_main_runs.proofs.ExpressionRuns.{IsRun, Situation, around_of, expression_runs, arguments_compiled, places_compiled}
 use Rattle.sk_main_runs.proofs.Runs.{IsLike}
-use Rattle.sk_main_runs.specs.Fits.{fits, all_fit}
 use Rattle.sk_main_runs.specs.SameMeaning.{fitted}
 use Rattle.sk_main_scheme.specs.MainScheme.{main_piece}
 use Rattle.sk_meaning.specs.Expressions.{Names, meaning_of, values_of, then_do}

@@ -2,13 +2,15 @@
 use Rattle.std.proofs.Common.{◌≡◌, ℕ, ap, ◌∙◌}
 use Rattle.std.specs.Prelude.{List, Some, slice_get}
 use Rattle.sk_isa.specs.declared.object.Object.{Object}
+use Rattle.sk_main_fits.specs.Mains.{known_in, main_of}
+use Rattle.sk_main_fits.specs.Vectors.{IsOfVectors}
 use Rattle.sk_main_runs.proofs.Compiled.{compiled_from}
 use Rattle.sk_main_runs.proofs.Functions.{functions_agree}
 use Rattle.sk_main_runs.proofs.MapInstances.{map_instance}
 use Rattle.sk_main_runs.proofs.Whole.{main_runs_alike}
 use Rattle.sk_main_runs.specs.Maps.{IsMapPlan}
-use Rattle.sk_main_runs.specs.RunsAlike.{IsAlike, judgements_in, known_in, main_of}
-use Rattle.sk_main_runs.specs.Vectors.{CompiledVectorsRunAsSource, IsCompiledFrom, IsOfVectors, VectorsRunAsSource}
+use Rattle.sk_main_runs.specs.RunsAlike.{IsAlike, judgements_in}
+use Rattle.sk_main_runs.specs.Vectors.{CompiledVectorsRunAsSource, IsCompiledFrom, VectorsRunAsSource}
 use Rattle.sk_main_scheme.specs.Objects.{object_of}
 use Rattle.sk_tree.specs.Skeletons.{elements_of}
 use Rattle.sk_tree.specs.declared.tree.Instance as instances

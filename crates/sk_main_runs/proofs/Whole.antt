@@ -11,17 +11,18 @@ use Rattle.sk_isa.specs.declared.code.Instr.TheVariants as instr
 use Rattle.sk_isa.specs.declared.object.Object.{Object}
 use Rattle.sk_main_code.specs.MainSoundness.{names_in_main}
 use Rattle.sk_main_code.specs.MainSteps.{main_start, next_in_main, over_from}
+use Rattle.sk_main_fits.specs.Mains.{known_in, main_body}
+use Rattle.sk_main_fits.specs.StatementFits.{all_emits, judged_of, sequence_fits, start_standing}
+use Rattle.sk_main_fits.proofs.Emission.{statements_emitted}
 use Rattle.sk_main_run.specs.MainNames.{State}
 use Rattle.sk_main_run.specs.MainRun.{none_declared, in_sequence, over_of, running_of}
-use Rattle.sk_main_runs.proofs.Emission.{statements_emitted}
 use Rattle.sk_main_runs.proofs.Ends.{ends_alike}
 use Rattle.sk_main_runs.proofs.Flows.{Runs}
 use Rattle.sk_main_runs.proofs.Runs.{stands, Finishes, last_step}
 use Rattle.sk_main_runs.proofs.StatementNodes.{Holds, IsAt}
 use Rattle.sk_main_runs.proofs.StatementRuns.{statements_follow}
-use Rattle.sk_main_runs.specs.RunsAlike.{IsAlike, MainRunsAlike, judgements_in, known_in, main_body}
+use Rattle.sk_main_runs.specs.RunsAlike.{IsAlike, MainRunsAlike, judgements_in}
 use Rattle.sk_main_runs.specs.SameMeaning.{FunctionsAgree, IsHeld}
-use Rattle.sk_main_runs.specs.StatementFits.{all_emits, judged_of, sequence_fits, start_standing}
 use Rattle.sk_main_scheme.specs.MainScheme.{Emitted, Emitting, all_emitted, emitting_of}
 use Rattle.sk_meaning.specs.Evaluation.{Callables, callables_of}
 use Rattle.sk_safety.specs.Safety.{Judgements}

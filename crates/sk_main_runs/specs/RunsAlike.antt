@@ -1,35 +1,22 @@
 -- When the run of a compiled program is that of its source: what is asked of the program and the object.
-use Rattle.std.specs.Prelude.{◌≡◌, ℕ, ◌-◌, Bool, true, List, [], length, map, ℤ, Some, Result, slice_get}
+use Rattle.std.specs.Prelude.{◌≡◌, ℕ, Bool, true, List, [], length, map, ℤ, Some, Result, slice_get}
 use Rattle.std.specs.List.{list_all}
 use Rattle.sk_isa.specs.Coded.{step_limit}
 use Rattle.sk_isa.specs.Configurations.{Ended, run_of}
 use Rattle.sk_isa.specs.declared.object.Object.{Object}
 use Rattle.sk_main_code.specs.MainSoundness.{names_in_main}
 use Rattle.sk_main_code.specs.MainSteps.{coded_of, main_start, next_in_main}
+use Rattle.sk_main_fits.specs.Mains.{known_in, main_body, main_of}
+use Rattle.sk_main_fits.specs.StatementFits.{judged_of, sequence_fits, start_standing}
 use Rattle.sk_main_run.specs.MainRun.{linked, run_of_program}
 use Rattle.sk_main_runs.specs.SameMeaning.{FunctionsAgree, IsInstance}
-use Rattle.sk_main_runs.specs.StatementFits.{judged_of, sequence_fits, start_standing}
-use Rattle.sk_main_scheme.specs.MainScheme.{Emitted, main_emitted, made_of}
+use Rattle.sk_main_scheme.specs.MainScheme.{made_of}
 use Rattle.sk_meaning.specs.Evaluation.{Callables, callables_of}
 use Rattle.sk_safety.specs.Safety.{Judgements, judgements_after}
 use Rattle.sk_scheme.specs.Plans.{functions_before_main}
-use Rattle.sk_scheme.specs.Scheme.{Known, known_functions}
-use Rattle.sk_tree.specs.Functions.{body_of}
 use Rattle.sk_tree.specs.declared.tree.Instance as instances
 use Rattle.sk_tree.specs.declared.tree.Program.{Program}
-use Rattle.sk_tree.specs.declared.tree.Statement.{Statement}
 use Rattle.sk_world.specs.World.{Input, World, Over}
-
--- the body of main, which is the last function
-abbrev pub main_body : Program → List Statement
-main_body program = body_of (slice_get program.functions (length program.functions - 1))
-
-abbrev pub known_in : Program → List (List ℕ × Known)
-known_in program = known_functions (functions_before_main program)
-
--- what main is compiled to
-abbrev pub main_of : Program → Emitted
-main_of program = main_emitted (known_in program) (main_body program)
 
 abbrev pub judgements_in : Program → Judgements
 judgements_in program = judgements_after [] (functions_before_main program)

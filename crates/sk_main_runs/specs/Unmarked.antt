@@ -5,10 +5,10 @@ use Rattle.sk_isa.specs.declared.object.Object.{Object}
 use Rattle.sk_isa.specs.declared.object.Plan.{Plan}
 use Rattle.sk_main_code.specs.MainSoundness.{names_in_main}
 use Rattle.sk_main_code.specs.MainSteps.{coded_of}
+use Rattle.sk_main_fits.specs.Vectors.{IsOfVectors}
 use Rattle.sk_main_means.specs.MainMeans.{IsSameRun}
 use Rattle.sk_main_run.specs.MainRun.{run_of_program}
 use Rattle.sk_main_runs.specs.RunsAlike.{IsOver}
-use Rattle.sk_main_runs.specs.Vectors.{IsOfVectors}
 use Rattle.sk_main_scheme.specs.Objects.{StandsFor, object_of}
 use Rattle.sk_plain.specs.Means.{MeansSource}
 use Rattle.sk_scheme.specs.Plans.{functions_object}
@@ -39,3 +39,14 @@ StandingVectorsRunAsSource = (program : Program) → IsOfVectors program → Mea
     → list_all (names_in_main (object_of program)) (object_of program).main.instrs ≡ true
     → (object : Object) → StandsFor object program → (inputs : List Input) (bound : ℕ) (dump : Bool) → IsOver (object_of program) inputs bound
     → IsSameRun (coded_of object inputs bound dump) (run_of_program program inputs bound dump)
+
+-- And so it does, since what main's code names is there.
+abbrev pub VectorsRun : Type 0
+VectorsRun = (program : Program) → IsOfVectors program → MeansSource program (functions_object program)
+    → (object : Object) → StandsFor object program → (inputs : List Input) (bound : ℕ) (dump : Bool) → IsOver (object_of program) inputs bound
+    → IsSameRun (coded_of object inputs bound dump) (run_of_program program inputs bound dump)
+
+-- The run of a program's object is over wherever that of one is that stands for the program.
+abbrev pub StandingEndsAlike : Type 0
+StandingEndsAlike = (program : Program) (object : Object) → StandsFor object program → (inputs : List Input) (bound : ℕ)
+    → IsOver object inputs bound → IsOver (object_of program) inputs bound

@@ -1,5 +1,5 @@
 ghost use Rattle.sk_main_runs.specs.RunsAlike.{MainRunsAlike};
-ghost use Rattle.sk_main_runs.specs.Unmarked.{StandingVectorsRunAsSource, UnmarkedRunAlike};
+ghost use Rattle.sk_main_runs.specs.Unmarked.{StandingEndsAlike, StandingVectorsRunAsSource, UnmarkedRunAlike, VectorsRun};
 ghost use Rattle.sk_main_runs.specs.Vectors.{CompiledVectorsRunAsSource, FunctionsMeanAlike, VectorsRunAsSource};
 
 /// A law: where an object has main's code, and its functions and instances mean what their sources mean, its run is that of
@@ -33,4 +33,14 @@ pub fn unmarked_run_alike()
 /// program, wherever its run is over.
 pub fn standing_vectors_run_as_source()
     ensures { StandingVectorsRunAsSource }
+{}
+
+/// A law: the same without a premise on names, since what main's code names is there.
+pub fn vectors_run()
+    ensures { VectorsRun }
+{}
+
+/// A law: the run of a program's object is over wherever that of one is that stands for the program.
+pub fn standing_ends_alike()
+    ensures { StandingEndsAlike }
 {}

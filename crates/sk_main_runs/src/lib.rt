@@ -7,5 +7,6 @@ mod laws;
 
 pub use laws::{
     compiled_functions_mean_alike, compiled_vectors_run_as_source, main_runs_alike,
-    standing_vectors_run_as_source, unmarked_run_alike, vectors_run_as_source,
+    standing_ends_alike, standing_vectors_run_as_source, unmarked_run_alike, vectors_run,
+    vectors_run_as_source,
 };

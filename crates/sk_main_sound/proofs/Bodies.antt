@@ -1,10 +1,9 @@
 -- The code of statements of main is sound where they fit.
-use Rattle.std.proofs.Common.{◌≡◌, ℕ, List, [], ◌∷◌, ◌++◌, length, map, refl, sym, subst, arith}
-use Rattle.std.specs.Prelude.{true, false}
+use Rattle.std.proofs.Common.{ℕ, List, [], ◌∷◌, length, map, refl, sym, subst, arith}
 use Rattle.sk_isa.specs.declared.object.Object.{Object}
+use Rattle.sk_main_fits.specs.StatementFits.{Judged, judge_step, judged_of}
+use Rattle.sk_main_fits.proofs.Emission.{judged_what}
 use Rattle.sk_main_runs.proofs.StatementNodes.{append-none}
-use Rattle.sk_main_runs.proofs.StatementRuns.{judged_what}
-use Rattle.sk_main_runs.specs.StatementFits.{Judged, judge_step, judged_of}
 use Rattle.sk_main_scheme.specs.MainScheme.{Whole}
 use Rattle.sk_main_sound.proofs.Choices.{for_sound, if_else_sound, if_sound}
 use Rattle.sk_main_sound.proofs.ContainerStatements.{call_sound, make_sound, poke_sound}

@@ -1,17 +1,17 @@
 -- The code of choices and loops of main, from the code of their parts.
-use Rattle.std.proofs.Common.{◌≡◌, ℕ, suc, ◌+◌, ◌≤◌, List, [], ◌∷◌, ◌++◌, length, refl, sym, ap, ◌∙◌, subst, arith, append_assoc, length-append}
-use Rattle.std.specs.Prelude.{true, false, Bool, ◌&&◌}
+use Rattle.std.proofs.Common.{◌≡◌, ℕ, suc, ◌+◌, ◌≤◌, List, [], ◌∷◌, ◌++◌, length, refl, sym, ap, ◌∙◌, arith, append_assoc, length-append}
+use Rattle.std.specs.Prelude.{true, ◌&&◌}
 use Rattle.sk_base.specs.declared.number.Ty.{Ty}
 use Rattle.sk_isa.specs.declared.code.Instr.{Instr}
 use Rattle.sk_isa.specs.declared.code.Instr.TheVariants as instr
 use Rattle.sk_isa.specs.declared.object.Object.{Object}
-use Rattle.sk_main_runs.specs.Fits.{fits}
-use Rattle.sk_main_runs.specs.StatementFits.{Judged, all_emits, behind_line, behind_loop_test, behind_test, for_fits, if_fits, judge_step, loop_fits, sequence_fits}
+use Rattle.sk_main_fits.specs.Fits.{fits}
+use Rattle.sk_main_fits.specs.StatementFits.{Judged, all_emits, behind_line, behind_loop_test, behind_test, if_fits, judge_step, loop_fits, sequence_fits}
 use Rattle.sk_main_scheme.specs.MainScheme.{Emitted, Standing, around_at, block_emitted, if_emitted, loop_emitted, main_piece, placed_behind}
 use Rattle.sk_main_sound.proofs.Expressions.{HasKnown, IsSound as IsSoundValue, expression_sound}
 use Rattle.sk_main_sound.proofs.Parts.{Part, choice_part, if_part, loop_part, part_at, part_same, part_to, then_part}
 use Rattle.sk_main_sound.proofs.Scopes.{Scope, below_wider, live_in}
-use Rattle.sk_main_sound.proofs.StatementNodes.{Grows, Holds, IsPlaced, IsSound, Sounds, block_judged, containers_grow, counted_sounds, holds_before}
+use Rattle.sk_main_sound.proofs.StatementNodes.{Holds, IsPlaced, IsSound, Sounds, block_judged, containers_grow, counted_sounds, holds_before}
 use Rattle.sk_main_sound.proofs.Values.{piece_at}
 use Rattle.sk_plain.proofs.Truths.{and_left, and_right}
 use Rattle.sk_scheme.specs.Scheme.{Known}

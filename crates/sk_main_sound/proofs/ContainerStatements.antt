@@ -1,5 +1,5 @@
 -- The code of statements about containers: one is made, an element is written, and an instance is called.
-use Rattle.std.proofs.Common.{◌≡◌, ℕ, zero, suc, ◌+◌, ◌<◌, ◌≤◌, List, [], ◌∷◌, ◌++◌, length, map, reverse, take, drop, All, Option, Some, None, pos, slice_get, refl, sym, ap, ◌∙◌, subst, arith, length-append}
+use Rattle.std.proofs.Common.{◌≡◌, ℕ, suc, ◌+◌, ◌≤◌, List, [], ◌∷◌, ◌++◌, length, map, reverse, take, drop, All, Option, Some, None, pos, slice_get, refl, sym, ap, ◌∙◌, subst, arith, length-append}
 use Rattle.std.proofs.lemmas.Bool.{and_from}
 use Rattle.std.proofs.lemmas.List.{length-map, length-reverse, length-take-le, take-append-drop}
 use Rattle.std.proofs.lemmas.List.Elements.{All-nil, All-cons}
@@ -12,14 +12,16 @@ use Rattle.sk_isa.specs.declared.code.Instr.{Instr}
 use Rattle.sk_isa.specs.declared.code.Instr.TheVariants as instr
 use Rattle.sk_isa.specs.declared.object.Object.{Object}
 use Rattle.sk_main_code.specs.MainSoundness.{names_of_main}
+use Rattle.sk_main_fits.specs.Fits.{fits, all_fit, is_whole}
+use Rattle.sk_main_fits.specs.StatementFits.{Judged, all_whole, call_fits, container_types, judge_step, names_whole}
+use Rattle.sk_main_names.proofs.Lists.{drop-map, size-dropped, take-map}
+use Rattle.sk_main_names.proofs.Tests.{made_few, number_itself, poked_parts, same_number, whole_is}
 use Rattle.sk_main_runs.proofs.StatementNodes.{append-none}
-use Rattle.sk_main_runs.specs.Fits.{fits, all_fit, is_whole}
-use Rattle.sk_main_runs.specs.StatementFits.{Judged, all_whole, call_fits, judge_step, names_whole}
-use Rattle.sk_main_scheme.specs.MainScheme.{Around, Emitting, Made, Named, Number, Whole, Called, Standing, around_at, container_named, containers_of, do_code, do_depth, main_leaves, main_piece, make_code, make_depth, of_instance, operands_of, poke_code, taking, type_in, uniforms_code}
-use Rattle.sk_main_sound.proofs.Expressions.{HasKnown, IsSound as IsSoundValue, arguments_stretch, expression_sound, expressions_sound, own_types, parts_high, places_stretch, same_number, wanted_value}
+use Rattle.sk_main_scheme.specs.MainScheme.{Around, Emitting, Made, Named, Number, Whole, Called, Standing, around_at, container_named, containers_of, do_code, do_depth, main_leaves, main_piece, make_code, of_instance, operands_of, poke_code, taking, type_in, uniforms_code}
+use Rattle.sk_main_sound.proofs.Expressions.{HasKnown, IsSound as IsSoundValue, arguments_stretch, expression_sound, expressions_sound, own_types, parts_high, places_stretch, wanted_value}
 use Rattle.sk_main_sound.proofs.Parts.{Part, counted_part, taking_part}
-use Rattle.sk_main_sound.proofs.Scopes.{Scope, IsFound, InScope, live_in, name_found, none_live}
-use Rattle.sk_main_sound.proofs.StatementNodes.{Grows, IsPlaced, IsSound, Sounds, counted_sounds, grows_same}
+use Rattle.sk_main_sound.proofs.Scopes.{IsFound, InScope, live_in, name_found, none_live}
+use Rattle.sk_main_sound.proofs.StatementNodes.{IsSound, Sounds, counted_sounds, grows_same}
 use Rattle.sk_main_sound.proofs.Statements.{stack_taken}
 use Rattle.sk_main_sound.proofs.Values.{Stretch, many_taken, number_piece, then_piece}
 use Rattle.sk_meaning.specs.Evaluation.{kind_type}
@@ -27,7 +29,7 @@ use Rattle.sk_names.specs.Bindings.{bound_to}
 use Rattle.sk_plain.proofs.Lists.{slice_get-seam, all_one}
 use Rattle.sk_plain.proofs.Truths.{and_left, and_right}
 use Rattle.sk_plain.specs.Plain.{fits_type}
-use Rattle.sk_scheme.specs.Pieces.{Piece, arguments_code, parts_depth, piece_step, places_code, then_code, wanted_code}
+use Rattle.sk_scheme.specs.Pieces.{Piece, parts_depth, piece_step, places_code, then_code, wanted_code}
 use Rattle.sk_scheme.specs.Scheme.{Known}
 use Rattle.sk_scheme_sound.proofs.SoundValues.{pushed}
 use Rattle.sk_tree.specs.FoldLaws.{folds-Name}
@@ -38,28 +40,9 @@ use Rattle.sk_tree.specs.declared.tree.ParamKind.{ParamKind}
 use Rattle.sk_tree.specs.declared.tree.ParamKind.TheVariants.{Scalar}
 use Rattle.sk_tree.specs.declared.tree.What.TheOpen as what
 
-module _ {A B : Type 0} (f : A → B) where
-  take-map : (n : ℕ) (xs : List A) → take n (map f xs) ≡ map f (take n xs)
-  take-map zero xs = refl
-  take-map (suc n) [] = refl
-  take-map (suc n) (x ∷ xs) = ap (λ l. f x ∷ l) (take-map n xs)
-
-  drop-map : (n : ℕ) (xs : List A) → drop n (map f xs) ≡ map f (drop n xs)
-  drop-map zero xs = refl
-  drop-map (suc n) [] = refl
-  drop-map (suc n) (x ∷ xs) = drop-map n xs
-
-size-dropped : {A : Type 0} → (n m : ℕ) (xs : List A) → length xs ≡ n + m → length (drop n xs) ≡ m
-size-dropped zero m xs e = e ∙ omega arith
-size-dropped (suc n) m [] e = absurd (omega (arith, e))
-size-dropped (suc n) m (x ∷ xs) e = size-dropped n m xs (omega (arith, e))
-
 zero_fits : (ty : Ty) → fits_type ty (pos 0) ≡ true
 zero_fits Int = refl
 zero_fits Long = refl
-
-number_itself : (n : ℕ) → (n == n) ≡ true
-number_itself n = grind arith
 
 module _ (object : Object) (depth : ℕ) (functions : List (List ℕ × Known)) (known : HasKnown object functions) where
   abbrev Sound : Judged → Type 0
@@ -116,13 +99,11 @@ module _ (object : Object) (depth : ℕ) (functions : List (List ℕ × Known)) 
   poke_emits name places value = taking (poke_code name places value) (parts_depth (map main_piece (places ++ value ∷ []))) (λ around standing. instr.Poke (container_named around name) (length places) ∷ [])
 
   poke_sounds : (name : List ℕ) (places : List Expr) (value : Expr)
-      → Sounds object depth functions (poke_emits name places value) (λ fs st. is_whole (bound_to name st.scope) && all_fit (map fits places) (around_at fs st) && fits value (around_at fs st))
+      → Sounds object depth functions (poke_emits name places value) (λ fs st. is_whole (bound_to name st.scope) && (length places == 1) && all_fit (map fits places) (around_at fs st) && fits value (around_at fs st))
   poke_sounds name places value st fit placed holds low =
       let a = around_at functions st in
-      let one = and_left (is_whole (bound_to name st.scope) && all_fit (map fits places) a) (fits value a) fit in
-      let fine = and_right (is_whole (bound_to name st.scope) && all_fit (map fits places) a) (fits value a) fit in
-      let whole = and_left (is_whole (bound_to name st.scope)) (all_fit (map fits places) a) one in
-      let fine_places = and_right (is_whole (bound_to name st.scope)) (all_fit (map fits places) a) one in
+      let p = poked_parts (is_whole (bound_to name st.scope)) (length places) (all_fit (map fits places) a) (fits value a) fit in
+      let fine = p.value in
       let ty : Ty = type_in a name in
       let tys : List Ty = types_of places a in
       let code : List Instr = poke_code name places value a st.at in
@@ -133,10 +114,10 @@ module _ (object : Object) (depth : ℕ) (functions : List (List ℕ × Known)) 
       let last = deep_last places value [] a in
       let high = (value_of value).high st.scope placed.scoped fine in (
         taking_part object depth i st.at (st.at + length code) code (ty ∷ (reverse tys ++ [])) live live
-            (above_stretch places ty value st placed.scoped fine_places fine st.at (omega (arith, low, front)) (omega (arith, low, last)))
+            (above_stretch places ty value st placed.scoped p.places fine st.at (omega (arith, low, front)) (omega (arith, low, last)))
             (λ names. stack_taken (ty ∷ reverse tys) [] (suc (length places)) (names_of_main object i) [] (ap suc (sym (length-reverse tys ∙ types_length places a))) names)
             (omega (arith, low, last, high, length-append (reverse tys) [], length-reverse tys, types_length places a))
-            (λ c e. let no : ⊥ = cc in absurd no) (all_one (λ c. live c ≡ true) container (whole_live (bound_to name st.scope) live (name_found object name st.scope placed.scoped) whole))
+            (λ c e. let no : ⊥ = cc in absurd no) (all_one (λ c. live c ≡ true) container (whole_live (bound_to name st.scope) live (name_found object name st.scope placed.scoped) p.whole))
             (λ c. refl) refl tt,
         record { scoped = placed.scoped; below = placed.below },
       )
@@ -145,7 +126,7 @@ module _ (object : Object) (depth : ℕ) (functions : List (List ℕ × Known)) 
   poke_sound name places value line = record {
     grows = grows_same object depth functions (judge_step (what.Poke name places value) line) (λ st. omega arith) (λ st. refl) (λ st. refl) (λ st. refl);
     part = counted_sounds object depth functions line (poke_emits name places value)
-        (λ fs st. is_whole (bound_to name st.scope) && all_fit (map fits places) (around_at fs st) && fits value (around_at fs st)) (poke_sounds name places value);
+        (λ fs st. is_whole (bound_to name st.scope) && (length places == 1) && all_fit (map fits places) (around_at fs st) && fits value (around_at fs st)) (poke_sounds name places value);
   }
 
   -- ---- making
@@ -209,8 +190,9 @@ module _ (object : Object) (depth : ℕ) (functions : List (List ℕ × Known)) 
         let declared : Declared = record { name = name; kind = kind; ty = ty } in
         let front : List Expr = take kind arguments in
         let back : List Expr = drop kind arguments in
-        let counts = and_left (length arguments == kind || length arguments == suc kind) (all_fit (map fits arguments) a) fit in
-        let fine = and_right (length arguments == kind || length arguments == suc kind) (all_fit (map fits arguments) a) fit in
+        let count : Bool = (kind == 1) && (length arguments == 1 || length arguments == 2) in
+        let counts = made_few kind (length arguments) (and_left count (all_fit (map fits arguments) a) fit) in
+        let fine = and_right count (all_fit (map fits arguments) a) fit in
         let all_is : front ++ back ≡ arguments = take-append-drop kind arguments in
         let fine_all : all_fit (map fits (front ++ back)) a ≡ true = ap (λ (es : List Expr). all_fit (map fits es) a) all_is ∙ fine in
         let deep : parts_depth (map main_piece (front ++ back)) a ≡ parts_depth (map main_piece arguments) a = ap (λ (es : List Expr). parts_depth (map main_piece es) a) all_is in
@@ -237,20 +219,22 @@ module _ (object : Object) (depth : ℕ) (functions : List (List ℕ × Known)) 
   -- ---- calls
 
   -- an argument that is a container
-  one_live : (st : Standing) → InScope object st.scope → (e : Expr) → names_whole (around_at functions st) e ≡ true → live_in st.scope (container_named (around_at functions st) (main_piece e).name) ≡ true
-  one_live st s (expression.Name name) whole =
+  one_live : (st : Standing) → InScope object st.scope → (ty : Ty) (e : Expr) → names_whole (around_at functions st) ty e ≡ true → live_in st.scope (container_named (around_at functions st) (main_piece e).name) ≡ true
+  one_live st s ty (expression.Name name) whole =
       ap (λ (p : Piece Around). live_in st.scope (container_named (around_at functions st) p.name)) (folds-Name (piece_step main_leaves) name)
-      ∙ whole_live (bound_to name st.scope) (live_in st.scope) (name_found object name st.scope s) whole
-  one_live st s e whole = let no : ⊥ = cc in absurd no
+      ∙ whole_live (bound_to name st.scope) (live_in st.scope) (name_found object name st.scope s) (whole_is ty (bound_to name st.scope) whole)
+  one_live st s ty e whole = let no : ⊥ = cc in absurd no
 
   -- the containers of a call
-  all_live : (st : Standing) → InScope object st.scope → (es : List Expr) → all_whole (around_at functions st) es ≡ true
+  all_live : (st : Standing) → InScope object st.scope → (types : List Ty) (es : List Expr) → all_whole (around_at functions st) types es ≡ true
       → All (λ container. live_in st.scope container ≡ true) (containers_of (around_at functions st) (map main_piece es))
-  all_live st s [] whole = All-nil (λ container. live_in st.scope container ≡ true)
-  all_live st s (e ∷ es) whole =
+  all_live st s [] [] whole = All-nil (λ container. live_in st.scope container ≡ true)
+  all_live st s [] (e ∷ es) whole = let no : ⊥ = cc in absurd no
+  all_live st s (ty ∷ types) [] whole = let no : ⊥ = cc in absurd no
+  all_live st s (ty ∷ types) (e ∷ es) whole =
       let a = around_at functions st in
       All-cons (λ container. live_in st.scope container ≡ true) (container_named a (main_piece e).name) (containers_of a (map main_piece es))
-      (one_live st s e (and_left (names_whole a e) (all_whole a es) whole)) (all_live st s es (and_right (names_whole a e) (all_whole a es) whole))
+      (one_live st s ty e (and_left (names_whole a ty e) (all_whole a types es) whole)) (all_live st s types es (and_right (names_whole a ty e) (all_whole a types es) whole))
 
   -- what is compiled for an instance
   abbrev call_code : Made → List Expr → Around → ℕ → List Instr
@@ -278,7 +262,7 @@ module _ (object : Object) (depth : ℕ) (functions : List (List ℕ × Known)) 
       let types : List Ty = uniforms_taken made.skeleton made.elements made.kinds in
       let kinds : List ParamKind = map Scalar types in
       let uniforms : List Expr = drop count arguments in
-      let whole_test : Bool = all_whole a (take count arguments) in
+      let whole_test : Bool = all_whole a (container_types made) (take count arguments) in
       let length_test : Bool = length arguments == count + length types in
       let fit_test : Bool = all_fit (map fits uniforms) a in
       let head = and_left (whole_test && length_test) fit_test fit in
@@ -297,7 +281,7 @@ module _ (object : Object) (depth : ℕ) (functions : List (List ℕ × Known)) 
       (subst (λ (us : List (Piece Around)). parts_depth us a ≤ depth) pieces_are low) at))
     where
       done_part : (made : Made) (wholes uniforms : List Expr) (kinds : List ParamKind) → kinds ≡ map Scalar (uniforms_taken made.skeleton made.elements made.kinds) → length (map Scalar (uniforms_taken made.skeleton made.elements made.kinds)) ≡ length (map main_piece uniforms)
-          → (st : Standing) → InScope object st.scope → all_whole (around_at functions st) wholes ≡ true → all_fit (map fits uniforms) (around_at functions st) ≡ true
+          → (st : Standing) → InScope object st.scope → all_whole (around_at functions st) (container_types made) wholes ≡ true → all_fit (map fits uniforms) (around_at functions st) ≡ true
           → parts_depth (map main_piece uniforms) (around_at functions st) ≤ depth → (at : ℕ)
           → Part object depth at
           (uniforms_code made (map main_piece uniforms) (around_at functions st) at ++ instr.Do made.number (containers_of (around_at functions st) (map main_piece wholes)) (length (map main_piece uniforms)) ∷ [])
@@ -316,7 +300,7 @@ module _ (object : Object) (depth : ℕ) (functions : List (List ℕ × Known)) 
           (arguments_stretch object depth functions (map main_piece uniforms) (map fits uniforms) (expressions_sound object depth functions known uniforms) ks n st.scope s fine at [] (omega (arith, low)))
           (λ names. many_taken fs [] (length (map main_piece uniforms)) (λ given rest. left_if (names_of_main object i) rest) size ∙ ap (λ (b : Bool). left_if b []) names)
           (omega (arith, low, high, size, length-append (reverse fs) [], length-reverse fs))
-          (λ c e. let no : ⊥ = cc in absurd no) (all_live st s wholes whole) (λ c. refl) refl tt
+          (λ c e. let no : ⊥ = cc in absurd no) (all_live st s (container_types made) wholes whole) (λ c. refl) refl tt
 
   call_part : (n : Option Named) (arguments : List Expr) (st : Standing) → InScope object st.scope → call_fits n arguments (around_at functions st) ≡ true
       → call_depth n arguments (around_at functions st) ≤ depth → (at : ℕ)

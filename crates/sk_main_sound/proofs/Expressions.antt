@@ -13,11 +13,12 @@ use Rattle.sk_isa.specs.declared.code.Instr.{Instr}
 use Rattle.sk_isa.specs.declared.code.Instr.TheVariants as instr
 use Rattle.sk_isa.specs.declared.object.Object.{Object}
 use Rattle.sk_isa.specs.declared.object.Signature.{Signature}
-use Rattle.sk_main_code.specs.MainSoundness.{given_in_main, left_in_main, names_in_main, names_of_main}
-use Rattle.sk_main_runs.specs.Fits.{Fit, fits, fit_step, all_fit, applied_fits, is_number, is_whole}
+use Rattle.sk_main_code.specs.MainSoundness.{given_in_main, names_of_main}
+use Rattle.sk_main_fits.specs.Fits.{Fit, fits, fit_step, all_fit, applied_fits, is_number, is_whole}
+use Rattle.sk_main_names.proofs.Tests.{same_number}
 use Rattle.sk_main_scheme.specs.MainScheme.{Around, Named, Number, Whole, Called, applied_code, applied_depth, applied_type, main_leaves, main_piece, name_leaf, method_leaf}
 use Rattle.sk_main_sound.proofs.Scopes.{Scope, IsFound, InScope, live_in, name_found}
-use Rattle.sk_main_sound.proofs.Values.{IsKept, Stretch, binary_piece, both_piece, choice_piece, either_piece, many_taken, nothing_piece, number_piece, one_piece, piece_end, prefix_piece, quiet, then_one, then_piece, wanted_piece, wider_top}
+use Rattle.sk_main_sound.proofs.Values.{Stretch, binary_piece, both_piece, choice_piece, either_piece, many_taken, nothing_piece, number_piece, one_piece, piece_end, prefix_piece, quiet, then_one, then_piece, wanted_piece, wider_top}
 use Rattle.sk_meaning.specs.Evaluation.{kind_type}
 use Rattle.sk_meaning.specs.Expressions.{wider}
 use Rattle.sk_names.specs.Bindings.{bound_to}
@@ -28,15 +29,13 @@ use Rattle.sk_scheme.specs.Pieces.{Piece, arguments_code, parts_depth, piece_ste
 use Rattle.sk_scheme.specs.Scheme.{Known}
 use Rattle.sk_scheme_sound.proofs.SoundPieces.{type_serves}
 use Rattle.sk_scheme_sound.proofs.SoundValues.{pushed, pushed-more, serves_left, serves_right}
+use Rattle.sk_tree.specs.Parameters.{is_container_method}
 use Rattle.sk_tree.specs.declared.declared.Declared.{Declared}
 use Rattle.sk_tree.specs.declared.tree.Expr.{Expr, Expr-F, roll-Expr, map-Expr, fold-roll-Expr, ind-Expr}
 use Rattle.sk_tree.specs.declared.tree.Expr.TheOpen as layer
 use Rattle.sk_tree.specs.declared.tree.ParamKind.{ParamKind}
 use Rattle.sk_tree.specs.declared.tree.ParamKind.TheVariants.{Scalar, Index, Proxy, Region}
 use Rattle.sk_tree.specs.declared.tree.Un.{Un}
-
-pub same_number : (n m : ℕ) → (n == m) ≡ true → n ≡ m
-same_number n m e = grind (arith, e)
 
 kinds_serve : (kinds : List ParamKind) → list_all is_scalar kinds ≡ true → serve_for (map kind_type kinds) kinds ≡ true
 kinds_serve [] e = refl
@@ -132,8 +131,9 @@ module _ (object : Object) (depth : ℕ) where
 
     method_value : (name method : List ℕ) → IsValue (piece_step main_leaves (layer.Method name method)) (fit_step (layer.Method name method))
     method_value name method = record {
-      high = λ scope s fit. method_high (bound_to name scope) method fit;
-      stretch = λ scope s fit at types low. method_stretch (live_in scope) (bound_to name scope) method (name_found object name scope s) fit at types low;
+      high = λ scope s fit. method_high (bound_to name scope) method (and_left (is_whole (bound_to name scope)) (is_container_method 1 method) fit);
+      stretch = λ scope s fit at types low.
+          method_stretch (live_in scope) (bound_to name scope) method (name_found object name scope s) (and_left (is_whole (bound_to name scope)) (is_container_method 1 method) fit) at types low;
     }
 
     never_value : (c : Piece Around) → IsValue c (λ around. false)
@@ -306,7 +306,8 @@ module _ (object : Object) (depth : ℕ) where
         let i : Instr = instr.Item container (length cs) in
         let tys : List Ty = own_types cs a in
         let given : given_in_main object i ≡ ty ∷ [] = given_type container (length cs) ty there.0 there.1 there.2 in
-        then_one object depth live at (at + length code) code i types (reverse tys ++ types) (ty ∷ types) (places_stretch cs ps h scope s fit at types low)
+        then_one object depth live at (at + length code) code i types (reverse tys ++ types) (ty ∷ types)
+        (places_stretch cs ps h scope s (and_right (length ps == 1) (all_fit ps a) fit) at types low)
         (λ names. many_taken tys types (length cs) (λ taken rest. left_if (names_of_main object i) (given_in_main object i ++ rest)) (sym (length-map cs (λ (c : Piece Around). c.ty a)))
         ∙ ap (λ (b : Bool). left_if b (given_in_main object i ++ types)) names ∙ ap (λ (l : List Ty). Some (l ++ types)) given)
         (omega (arith, few, length-append (reverse tys) types, length-reverse tys, length-map cs (λ (c : Piece Around). c.ty a)))

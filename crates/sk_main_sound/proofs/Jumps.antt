@@ -5,7 +5,7 @@ use Rattle.sk_isa.specs.declared.code.Instr.{Instr}
 use Rattle.sk_isa.specs.declared.code.Instr.TheVariants as instr
 use Rattle.sk_main_code.specs.MainSoundness.{IsCount}
 use Rattle.sk_plain.proofs.Lists.{slice_get-front, slice_get-back}
-use Rattle.sk_scheme_sound.proofs.Each.{Each, each_append, each_at}
+use Rattle.sk_scheme_sound.proofs.Each.{each_append, each_at}
 use Rattle.sk_scheme_sound.proofs.SoundJumps.{AllJumps, Over, jumps_map, late_jumps}
 use Rattle.sk_scheme_sound.proofs.SoundPieces.{Aims}
 

@@ -10,6 +10,5 @@ pub mod Pieces
 pub mod Scopes
 pub mod StatementNodes
 pub mod Statements
-pub mod Unmarked
 pub mod Values
 pub mod Whole

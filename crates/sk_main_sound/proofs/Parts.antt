@@ -1,5 +1,5 @@
 -- Pieces of the code of statements of main, before and behind which the stack is empty: their stages and their jumps.
-use Rattle.std.proofs.Common.{◌≡◌, ℕ, suc, ◌+◌, ◌<◌, ◌≤◌, List, [], ◌∷◌, ◌++◌, length, All, Some, None, refl, sym, ap, ◌∙◌, subst, arith, length-append, append_assoc, inl, inr}
+use Rattle.std.proofs.Common.{◌≡◌, ℕ, suc, ◌+◌, ◌≤◌, List, [], ◌∷◌, ◌++◌, length, All, Some, refl, sym, ap, ◌∙◌, subst, arith, append_assoc, inl, inr}
 use Rattle.std.proofs.lemmas.List.Elements.{All-nil}
 use Rattle.std.specs.Prelude.{true, false, Bool, not, ◌&&◌, ◌||◌, ◌==◌}
 use Rattle.sk_base.specs.declared.number.Ty.{Ty}
@@ -11,9 +11,9 @@ use Rattle.sk_main_code.specs.MainSoundness.{left_in_main, lives_after, made_by,
 use Rattle.sk_main_scheme.specs.MainScheme.{Named, Number, Whole, Called, dropped}
 use Rattle.sk_main_sound.proofs.Frames.{choice_fits, if_fits, loop_fits}
 use Rattle.sk_main_sound.proofs.Jumps.{IsJump, Jumps, forward_jumps, far_zero, far_jump, near_jumps, join_jumps, loop_jumps}
-use Rattle.sk_main_sound.proofs.Pieces.{Stage, Stages, staged, Serves, serves_on, Fits, then_fits, nothing_fits, one_fits, halt_fits, wider_fits}
+use Rattle.sk_main_sound.proofs.Pieces.{Stage, staged, Fits, then_fits, nothing_fits, one_fits, halt_fits, wider_fits}
 use Rattle.sk_main_sound.proofs.Scopes.{Scope, AreBelow, IsBelow, below_it, is_container, live_in, none_live}
-use Rattle.sk_main_sound.proofs.Values.{IsKept, Stretch, many_taken, quiet, one_piece}
+use Rattle.sk_main_sound.proofs.Values.{Stretch, many_taken}
 use Rattle.sk_plain.proofs.Lists.{all_one}
 use Rattle.sk_scheme_sound.proofs.SoundPieces.{Aims, aims_map}
 

@@ -1,7 +1,6 @@
 -- The names in scope in main: the slots and the containers that they stand for are there, and these containers are live.
-use Rattle.std.proofs.Common.{◌≡◌, ℕ, suc, ◌+◌, ◌<◌, ◌≤◌, List, [], ◌∷◌, ◌++◌, length, Option, Some, None, slice_get, refl, sym, ap, ◌∙◌, subst, arith}
+use Rattle.std.proofs.Common.{◌≡◌, ℕ, ◌<◌, ◌≤◌, List, [], ◌∷◌, ◌++◌, Option, Some, None, slice_get, refl, sym, ap, ◌∙◌, subst, arith}
 use Rattle.std.specs.Prelude.{true, false, Bool, not, ◌&&◌, ◌||◌, ◌==◌}
-use Rattle.sk_base.specs.declared.number.Ty.{Ty}
 use Rattle.sk_isa.specs.declared.object.Object.{Object}
 use Rattle.sk_main_code.specs.MainSoundness.{main_scalar}
 use Rattle.sk_main_scheme.specs.MainScheme.{Named, Number, Whole, Called}

@@ -1,13 +1,13 @@
 -- The code of statements of main, from the code of their parts: what is asked, sequences, and blocks.
-use Rattle.std.proofs.Common.{◌≡◌, ℕ, suc, ◌+◌, ◌-◌, ◌≤◌, List, [], ◌∷◌, ◌++◌, length, take, Some, slice_get, refl, sym, ap, ◌∙◌, subst, arith, append_assoc, length-append}
+use Rattle.std.proofs.Common.{◌≡◌, ℕ, ◌+◌, ◌-◌, ◌≤◌, List, [], ◌∷◌, ◌++◌, length, take, Some, slice_get, refl, sym, ap, ◌∙◌, subst, arith, append_assoc, length-append}
 use Rattle.std.proofs.Math.Seq.{take-append_seam}
 use Rattle.std.specs.Prelude.{true, false, Bool, not, ◌&&◌, ◌||◌}
 use Rattle.sk_base.specs.declared.number.Ty.{Ty}
 use Rattle.sk_isa.specs.declared.code.Instr.{Instr}
 use Rattle.sk_isa.specs.declared.object.Object.{Object}
 use Rattle.sk_main_code.specs.MainSoundness.{main_scalar}
+use Rattle.sk_main_fits.specs.StatementFits.{Judged, Test, all_emits, sequence_fits, behind_line}
 use Rattle.sk_main_runs.proofs.StatementNodes.{append-none}
-use Rattle.sk_main_runs.specs.StatementFits.{Judged, Test, all_emits, sequence_fits, behind_line}
 use Rattle.sk_main_scheme.specs.MainScheme.{Emitted, Emitting, Standing, all_emitted, block_emitted, counted, dropped, then_emitted}
 use Rattle.sk_main_sound.proofs.Parts.{Part, counted_part, drops_part, left_live, nothing_part, part_same, then_part}
 use Rattle.sk_main_sound.proofs.Scopes.{Scope, AreBelow, InScope, below_wider, live_append, live_in, live_left}

@@ -1,45 +1,35 @@
 -- The code of single statements of main, each a sound piece.
-use Rattle.std.proofs.Common.{◌≡◌, ◌⊎◌, ℕ, zero, suc, ◌+◌, ◌<◌, ◌≤◌, List, [], ◌∷◌, ◌++◌, length, map, reverse, take, drop, All, Option, Some, None, ℤ, pos, slice_get, refl, sym, ap, ◌∙◌, subst, arith, length-append, inl, inr}
-use Rattle.std.proofs.Math.Seq.{take-append_seam, drop-append_seam}
+use Rattle.std.proofs.Common.{◌≡◌, ℕ, suc, ◌+◌, ◌≤◌, List, [], ◌∷◌, ◌++◌, length, map, reverse, take, drop, All, Option, Some, None, refl, sym, ap, ◌∙◌, subst, arith, length-append}
+use Rattle.std.proofs.Math.Seq.{drop-append_seam}
 use Rattle.std.proofs.lemmas.Bool.{le-leb}
-use Rattle.std.proofs.lemmas.List.{length-map, length-reverse}
-use Rattle.std.proofs.lemmas.List.Elements.{All-nil, All-cons}
-use Rattle.std.specs.Prelude.{true, false, Bool, ◌&&◌, ◌||◌, ◌==◌, if◌then◌else◌, nat_le}
-use Rattle.sk_arguments.specs.Operands.{uniforms_taken}
+use Rattle.std.proofs.lemmas.List.Elements.{All-nil}
+use Rattle.std.specs.Prelude.{true, false, Bool, ◌&&◌, ◌||◌, if◌then◌else◌, nat_le}
 use Rattle.sk_base.specs.declared.number.Ty.{Ty}
-use Rattle.sk_base.specs.declared.number.Ty.TheVariants.{Int}
 use Rattle.sk_isa.specs.Soundness.{Left, leads_to, left_if, of_many, serves}
 use Rattle.sk_isa.specs.declared.code.Instr.{Instr}
 use Rattle.sk_isa.specs.declared.code.Instr.TheVariants as instr
 use Rattle.sk_isa.specs.declared.object.Object.{Object}
-use Rattle.sk_main_code.specs.MainSoundness.{left_in_main, lives_after, made_by, main_scalar, names_in_main, names_of_main, used_by}
+use Rattle.sk_main_code.specs.MainSoundness.{left_in_main, lives_after, made_by, main_scalar, used_by}
+use Rattle.sk_main_fits.specs.Fits.{fits, is_number}
+use Rattle.sk_main_fits.specs.StatementFits.{Judged, behind_line, item_fits, items_fit, judge_step}
 use Rattle.sk_main_runs.proofs.StatementNodes.{append-none}
-use Rattle.sk_main_runs.specs.Fits.{Fit, fits, all_fit, is_number, is_whole}
-use Rattle.sk_main_runs.specs.StatementFits.{Judged, all_whole, behind_line, call_fits, item_fits, items_fit, judge_step, names_whole, sequence_fits}
-use Rattle.sk_main_scheme.specs.MainScheme.{Around, Emitted, Emitting, Made, Named, Number, Whole, Called, Standing, all_emitted, around_at, container_named, containers_of, do_code, do_depth, item_emitted, made_of, main_leaves, main_piece, named_type, of_instance, operands_of, poke_code, store_code, taking, type_in, uniforms_code}
-use Rattle.sk_main_sound.proofs.Expressions.{AreValues, HasKnown, IsSound as IsSoundValue, IsValue, arguments_stretch, expression_sound, expressions_sound, own_types, parts_high, places_stretch, same_number, values_length, wanted_value}
-use Rattle.sk_main_sound.proofs.Parts.{Part, counted_part, nothing_part, part_end, part_same, return_part, taking_part}
+use Rattle.sk_main_scheme.specs.MainScheme.{Emitting, Named, Number, Whole, Called, Standing, all_emitted, around_at, item_emitted, made_of, main_piece, named_type, store_code, taking, type_in}
+use Rattle.sk_main_sound.proofs.Expressions.{HasKnown, IsSound as IsSoundValue, expression_sound, wanted_value}
+use Rattle.sk_main_sound.proofs.Parts.{Part, counted_part, nothing_part, part_same, return_part, taking_part}
 use Rattle.sk_main_sound.proofs.Pieces.{nothing_made}
-use Rattle.sk_main_sound.proofs.Scopes.{Scope, AreBelow, InScope, IsFound, below_wider, live_in, name_found, none_live}
-use Rattle.sk_main_sound.proofs.StatementNodes.{Grows, Holds, IsPlaced, IsSound, Sounds, counted_sounds, grows_same, none_sound, pair_sound}
-use Rattle.sk_main_sound.proofs.Values.{Stretch, many_taken, nothing_piece, piece_end, then_piece}
-use Rattle.sk_meaning.specs.Evaluation.{kind_type}
+use Rattle.sk_main_sound.proofs.Scopes.{InScope, IsFound, live_in, name_found}
+use Rattle.sk_main_sound.proofs.StatementNodes.{IsSound, Sounds, counted_sounds, grows_same, none_sound, pair_sound}
+use Rattle.sk_main_sound.proofs.Values.{Stretch, nothing_piece}
 use Rattle.sk_names.specs.Bindings.{bound_to}
-use Rattle.sk_plain.proofs.Lists.{slice_get-seam, all_one}
+use Rattle.sk_plain.proofs.Lists.{slice_get-seam}
 use Rattle.sk_plain.proofs.Truths.{and_left, and_right}
-use Rattle.sk_scheme.specs.Pieces.{Piece, arguments_code, parts_depth, piece_step, places_code, wanted_code}
+use Rattle.sk_scheme.specs.Pieces.{wanted_code}
 use Rattle.sk_scheme.specs.Scheme.{Known}
 use Rattle.sk_scheme_sound.proofs.SoundPieces.{Aims, type_serves}
-use Rattle.sk_scheme_sound.proofs.SoundValues.{pushed}
-use Rattle.sk_tree.specs.FoldLaws.{folds-Name}
-use Rattle.sk_tree.specs.declared.declared.Declared.{Declared}
 use Rattle.sk_tree.specs.declared.tree.Expr.{Expr}
-use Rattle.sk_tree.specs.declared.tree.Expr.TheVariants as expression
 use Rattle.sk_tree.specs.declared.tree.Instance as instances
 use Rattle.sk_tree.specs.declared.tree.Item.{Item}
 use Rattle.sk_tree.specs.declared.tree.Item.TheVariants.{Value, Text, End}
-use Rattle.sk_tree.specs.declared.tree.ParamKind.{ParamKind}
-use Rattle.sk_tree.specs.declared.tree.ParamKind.TheVariants.{Scalar}
 use Rattle.sk_tree.specs.declared.tree.What.TheOpen as what
 
 or_nothing : (a : Bool) → (a || false) ≡ a

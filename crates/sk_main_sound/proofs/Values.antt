@@ -1,12 +1,12 @@
 -- Pieces of main's code that give a value: their stages, and their jumps, all forward.
-use Rattle.std.proofs.Common.{◌≡◌, ℕ, suc, ◌+◌, ◌<◌, ◌≤◌, List, [], ◌∷◌, ◌++◌, length, map, reverse, take, drop, All, Option, Some, None, ℤ, pos, negsuc, refl, sym, ap, ◌∙◌, subst, arith, length-append}
+use Rattle.std.proofs.Common.{◌≡◌, ℕ, suc, ◌+◌, ◌<◌, ◌≤◌, List, [], ◌∷◌, ◌++◌, length, reverse, take, drop, All, Some, None, ℤ, pos, negsuc, refl, sym, ap, ◌∙◌, subst, arith, length-append}
 use Rattle.std.proofs.Math.Seq.{take-append_seam, drop-append_seam}
 use Rattle.std.proofs.lemmas.Bool.{and_from, le-leb, leb-true}
 use Rattle.std.proofs.lemmas.Bool.Decides.{nat_tests}
 use Rattle.std.proofs.lemmas.List.{length-reverse, reverse-reverse}
 use Rattle.std.proofs.lemmas.List.Elements.{All-nil}
 use Rattle.std.specs.Cmp.Lexicographic.{pointwise}
-use Rattle.std.specs.Prelude.{true, false, Bool, ◌&&◌, ◌||◌, if◌then◌else◌, nat_le}
+use Rattle.std.specs.Prelude.{true, Bool, ◌&&◌, ◌||◌, if◌then◌else◌, nat_le}
 use Rattle.sk_base.specs.Arithmetic.{is_shift}
 use Rattle.sk_base.specs.declared.number.Op.{Op}
 use Rattle.sk_base.specs.declared.number.Op.TheVariants.{Shl, Shr, Lt, Le, Gt, Ge, Eq, Ne}
@@ -24,7 +24,6 @@ use Rattle.sk_plain.proofs.Truths.{and_left}
 use Rattle.sk_plain.specs.Plain.{fits_type}
 use Rattle.sk_scheme.specs.Pieces.{Placed, narrowed, prefix_code, both_code, either_code, choice_code}
 use Rattle.sk_scheme_sound.proofs.Each.{Each, each_append, each_map}
-use Rattle.sk_scheme_sound.proofs.SoundJumps.{AllJumps}
 use Rattle.sk_scheme_sound.proofs.SoundPieces.{Aims, aims_map, type_serves, types_serve}
 use Rattle.sk_scheme_sound.proofs.SoundValues.{serves_left, serves_right}
 use Rattle.sk_tree.specs.declared.tree.Un.{Un}

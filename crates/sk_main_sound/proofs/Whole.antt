@@ -2,10 +2,9 @@
 use Rattle.std.proofs.Common.{◌≡◌, ℕ, zero, suc, ◌+◌, ◌<◌, ◌≤◌, List, [], ◌∷◌, ◌++◌, length, map, All, IsSomeAnd, Option, Some, None, slice_get, refl, sym, ap, ◌∙◌, subst, arith, length-append}
 use Rattle.std.proofs.lemmas.List.{length-map}
 use Rattle.std.proofs.lemmas.List.Elements.{All-nil, All-cons, All-head, All-tail}
-use Rattle.std.proofs.lemmas.Option.{slice_get_within, slice_get-map}
+use Rattle.std.proofs.lemmas.Option.{slice_get_within}
 use Rattle.std.specs.Cmp.Lexicographic.{pointwise}
 use Rattle.std.specs.List.{list_all}
-use Rattle.std.specs.Option.{option_map}
 use Rattle.std.specs.Prelude.{max, true, false, Bool}
 use Rattle.sk_base.specs.declared.number.Ty.{Ty}
 use Rattle.sk_base.specs.declared.number.Ty.TheVariants.{Int}
@@ -15,12 +14,13 @@ use Rattle.sk_isa.specs.declared.code.Instr.{Instr}
 use Rattle.sk_isa.specs.declared.code.Instr.TheVariants as instr
 use Rattle.sk_isa.specs.declared.object.Object.{Object}
 use Rattle.sk_isa.specs.declared.object.Signature.{Signature}
-use Rattle.sk_main_code.specs.MainSoundness.{HasLives, IsCount, IsSoundMain, Lives, LivesAt, left_in_main, lives_after, main_scalar, main_signature, names_in_main}
-use Rattle.sk_main_runs.proofs.Emission.{statements_emitted}
-use Rattle.sk_main_runs.specs.RunsAlike.{known_in, main_body, main_of}
-use Rattle.sk_main_runs.specs.StatementFits.{Judged, all_emits, judged_of, sequence_fits, start_standing}
-use Rattle.sk_main_runs.specs.Vectors.{IsOfVectors}
-use Rattle.sk_main_scheme.specs.MainScheme.{Emitted, Emitting, Standing, all_emitted, emitting_of}
+use Rattle.sk_main_code.specs.MainSoundness.{HasLives, IsCount, IsSoundMain, Lives, LivesAt, left_in_main, lives_after, main_signature, names_in_main}
+use Rattle.sk_main_fits.specs.Mains.{known_in, main_body, main_of}
+use Rattle.sk_main_fits.specs.StatementFits.{judged_of, sequence_fits, start_standing}
+use Rattle.sk_main_fits.specs.Vectors.{IsOfVectors}
+use Rattle.sk_main_fits.proofs.Emission.{statements_emitted}
+use Rattle.sk_main_names.proofs.Functions.{scalar_is}
+use Rattle.sk_main_scheme.specs.MainScheme.{Emitted, Emitting, all_emitted, emitting_of}
 use Rattle.sk_main_sound.proofs.Bodies.{statements_sound}
 use Rattle.sk_main_sound.proofs.Expressions.{HasKnown}
 use Rattle.sk_main_sound.proofs.Jumps.{loops_count}
@@ -31,13 +31,11 @@ use Rattle.sk_main_sound.proofs.StatementNodes.{Holds, Sounds}
 use Rattle.sk_main_sound.proofs.Statements.{stack_taken}
 use Rattle.sk_plain.proofs.Lists.{slice_get-in}
 use Rattle.sk_plain.proofs.Truths.{and_left, and_right, some_same}
-use Rattle.sk_scheme.specs.Scheme.{Known}
 use Rattle.sk_scheme_sound.proofs.Each.{Each, each_append, each_at, each_back, each_from, each_front}
 use Rattle.sk_tree.specs.declared.declared.Declared.{Declared}
 use Rattle.sk_tree.specs.declared.tree.ParamKind.{ParamKind}
 use Rattle.sk_tree.specs.declared.tree.ParamKind.TheVariants.{Scalar}
 use Rattle.sk_tree.specs.declared.tree.Program.{Program}
-use Rattle.sk_tree.specs.declared.tree.Statement.{Statement}
 
 -- what holds of all elements holds of one
 all_at : (test : Instr → Bool) (is : List Instr) (at : ℕ) (i : Instr) → list_all test is ≡ true → slice_get is at ≡ Some i → test i ≡ true
@@ -191,15 +189,9 @@ module _ (program : Program) (object : Object) (vectors : IsOfVectors program) (
   code_is : object.main.instrs ≡ (all_emitted (map emitting_of (main_body program)) (known_in program) start_standing).code ++ instr.Halt ∷ []
   code_is = ap (λ (c : Code). c.instrs) h.main
 
-  scalar_is : (slot : ℕ) (ty : Ty) → slice_get (main_of program).behind.slots slot ≡ Some ty → main_scalar object slot ≡ Some ty
-  scalar_is slot ty e =
-      let there : slice_get (main_signature object).slots slot ≡ Some (Scalar ty) =
-      ap (λ (s : Signature). slice_get s.slots slot) h.signature ∙ slice_get-map Scalar (main_of program).behind.slots slot ∙ ap (option_map Scalar) e in
-      ap (λ (o : Option ParamKind). elim o as (λ x. Option Ty) [ Some kind ↦ elim kind as (λ x. Option Ty) [ Scalar ty ↦ Some ty | _ ↦ None ] | None ↦ None ]) there
-
   held : Holds object object.main.depth (known_in program) (all_emitted (map emitting_of (main_body program)) (known_in program) start_standing).behind
   held = record {
-    slots = scalar_is;
+    slots = scalar_is object (main_of program).behind.slots (ap (λ (s : Signature). s.slots) h.signature);
     containers = λ number declared e. subst (λ (l : List Declared). slice_get l number ≡ Some declared) (sym h.containers) e;
   }
 

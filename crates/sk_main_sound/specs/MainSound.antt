@@ -1,18 +1,14 @@
 -- Compiled main is sound: what is asked of the program and the object.
-use Rattle.std.specs.Prelude.{◌≡◌, true}
-use Rattle.std.specs.List.{list_all}
-use Rattle.sk_main_code.specs.MainSoundness.{IsSoundMain, names_in_main}
-use Rattle.sk_main_runs.specs.Vectors.{IsOfVectors}
-use Rattle.sk_main_scheme.specs.Objects.{StandsFor, object_of}
 use Rattle.sk_isa.specs.declared.object.Object.{Object}
+use Rattle.sk_main_code.specs.MainSoundness.{IsSoundMain}
+use Rattle.sk_main_fits.specs.Vectors.{IsOfVectors}
+use Rattle.sk_main_scheme.specs.Objects.{StandsFor, object_of}
 use Rattle.sk_tree.specs.declared.tree.Program.{Program}
 
--- The main of the object that a program of vectors is compiled to is sound, if what its code names is there.
+-- The main of the object that a program of vectors is compiled to is sound.
 abbrev pub CompiledVectorsAreSound : Type 0
-CompiledVectorsAreSound = (program : Program) → IsOfVectors program
-    → list_all (names_in_main (object_of program)) (object_of program).main.instrs ≡ true → IsSoundMain (object_of program)
+CompiledVectorsAreSound = (program : Program) → IsOfVectors program → IsSoundMain (object_of program)
 
 -- The same of each object that stands for the program.
 abbrev pub StandingVectorsAreSound : Type 0
-StandingVectorsAreSound = (program : Program) → IsOfVectors program → (object : Object) → StandsFor object program
-    → list_all (names_in_main object) object.main.instrs ≡ true → IsSoundMain object
+StandingVectorsAreSound = (program : Program) → IsOfVectors program → (object : Object) → StandsFor object program → IsSoundMain object

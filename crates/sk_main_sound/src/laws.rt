@@ -1,6 +1,6 @@
 ghost use Rattle.sk_main_sound.specs.MainSound.{CompiledVectorsAreSound, StandingVectorsAreSound};
 
-/// A law: the main of the object that a program of vectors is compiled to is sound, if what its code names is there.
+/// A law: the main of the object that a program of vectors is compiled to is sound.
 pub fn compiled_vectors_are_sound()
     ensures { CompiledVectorsAreSound }
 {}

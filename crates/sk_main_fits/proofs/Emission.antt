@@ -1,12 +1,15 @@
 -- What is judged of a statement is judged of its code.
 use Rattle.std.proofs.Common.{◌≡◌, ℕ, List, [], ◌∷◌, map, refl, sym, ap, ◌∙◌, subst}
-use Rattle.sk_main_runs.proofs.StatementRuns.{judged_what}
-use Rattle.sk_main_runs.specs.StatementFits.{Judged, all_emits, judge_step, judged_of}
+use Rattle.sk_main_fits.specs.StatementFits.{Judged, all_emits, judge_step, judged_of}
 use Rattle.sk_main_scheme.specs.MainScheme.{Emitting, emitting_of, emitting_step}
 use Rattle.sk_plain.proofs.Parts.{statements_of, plain_level}
 use Rattle.sk_tree.specs.declared.tree.Statement.{Statement, Statement-F, roll-Statement, map-Statement, ind-Statement, fold-roll-Statement}
 use Rattle.sk_tree.specs.declared.tree.What.{What, What-F, roll-What, map-What, fold-What, fold-roll-What}
 use Rattle.sk_tree.specs.declared.tree.What.TheOpen as what
+
+-- what is judged of what a statement is, apart from its line
+abbrev pub judged_what : What → ℕ → Judged
+judged_what = fold-What (ℕ → Judged) Judged judge_step (λ statement. statement.what statement.line)
 
 abbrev emitting_what : What → ℕ → Emitting
 emitting_what = fold-What (ℕ → Emitting) Emitting emitting_step (λ statement. statement.what statement.line)

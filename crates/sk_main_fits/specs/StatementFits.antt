@@ -2,10 +2,12 @@
 -- occur.
 use Rattle.std.specs.Prelude.{ℕ, suc, ◌+◌, Bool, true, false, ◌&&◌, ◌||◌, ◌==◌, List, [], ◌∷◌, length, map, take, drop, Option, Some, None}
 use Rattle.sk_arguments.specs.Operands.{uniforms_taken}
-use Rattle.sk_main_runs.specs.Fits.{Fit, fits, all_fit, is_number, is_whole}
-use Rattle.sk_main_scheme.specs.MainScheme.{Around, Named, Number, Whole, Called, Standing, Emitting, around_at, placed_behind, main_piece, operands_of, block_emitted, emitting_step}
+use Rattle.sk_base.specs.declared.number.Ty.{Ty}
+use Rattle.sk_main_fits.specs.Fits.{Fit, fits, all_fit, is_number, is_whole}
+use Rattle.sk_main_scheme.specs.MainScheme.{Around, Made, Named, Number, Whole, Called, Standing, Emitting, around_at, placed_behind, main_piece, operands_of, block_emitted, emitting_step}
 use Rattle.sk_names.specs.Bindings.{bound_to}
 use Rattle.sk_scheme.specs.Scheme.{Known}
+use Rattle.sk_tree.specs.Parameters.{same_type, scalar_types}
 use Rattle.sk_tree.specs.declared.tree.Expr.{Expr}
 use Rattle.sk_tree.specs.declared.tree.Expr.TheVariants as expression
 use Rattle.sk_tree.specs.declared.tree.Item.{Item}
@@ -17,8 +19,8 @@ use Rattle.sk_tree.specs.declared.tree.What.TheOpen.{What-F, Declare, Assign, Po
 abbrev pub Test : Type 0
 Test = List (List ℕ × Known) → Standing → Bool
 
--- A statement with what it is compiled to: whether it fits, whether it declares no container and no instance, and whether it
--- is an assignment.
+-- A statement with what it is compiled to: whether it fits, whether a `for` may begin with it, as a declaration of a scalar
+-- and an assignment, and whether it is an assignment, to a scalar or to an element.
 pub record Judged : Type 0 where
   pub emits : Emitting
   pub fits : Test
@@ -42,19 +44,33 @@ abbrev pub items_fit : List Item → Fit
 items_fit [] around = true
 items_fit (item ∷ items) around = item_fits item around && items_fit items around
 
--- an argument that is the name of a container
-abbrev pub names_whole : Around → Expr → Bool
-names_whole around (expression.Name name) = is_whole (bound_to name around.scope)
-names_whole around expr = false
+-- a container whose elements have the type
+abbrev pub is_whole_of : Ty → Option Named → Bool
+is_whole_of ty (Some (Whole container other)) = same_type ty other
+is_whole_of ty (Some (Number slot other)) = false
+is_whole_of ty (Some (Called made)) = false
+is_whole_of ty None = false
 
-abbrev pub all_whole : Around → List Expr → Bool
-all_whole around [] = true
-all_whole around (expr ∷ exprs) = names_whole around expr && all_whole around exprs
+-- an argument that is the name of such a container
+abbrev pub names_whole : Around → Ty → Expr → Bool
+names_whole around ty (expression.Name name) = is_whole_of ty (bound_to name around.scope)
+names_whole around ty expr = false
 
--- the result and the containers of a call, and as many uniform arguments as are taken
+-- one for each type
+abbrev pub all_whole : Around → List Ty → List Expr → Bool
+all_whole around [] [] = true
+all_whole around [] (expr ∷ exprs) = false
+all_whole around (ty ∷ types) [] = false
+all_whole around (ty ∷ types) (expr ∷ exprs) = names_whole around ty expr && all_whole around types exprs
+
+-- the types of the containers that a Map takes, the result first
+abbrev pub container_types : Made → List Ty
+container_types made = made.ret ∷ take made.elements (scalar_types made.kinds)
+
+-- the result and the containers of a call of a Map, and as many uniform arguments as are taken
 abbrev pub call_fits : Option Named → List Expr → Fit
 call_fits (Some (Called made)) arguments around =
-    all_whole around (take (suc (operands_of made)) arguments)
+    all_whole around (container_types made) (take (suc (operands_of made)) arguments)
     && (length arguments == suc (operands_of made) + length (uniforms_taken made.skeleton made.elements made.kinds))
     && all_fit (map fits (drop (suc (operands_of made)) arguments)) around
 call_fits (Some (Number slot ty)) arguments around = false
@@ -104,11 +120,12 @@ judge_step (Declare ty name expr) line = judged_by (emitting_step (Declare ty na
     (λ functions standing. fits expr (around_at functions standing))
 judge_step (Assign name expr) line = judged_by (emitting_step (Assign name expr) line) true true
     (λ functions standing. is_number (bound_to name standing.scope) && fits expr (around_at functions standing))
-judge_step (Poke name places value) line = judged_by (emitting_step (Poke name places value) line) false false
-    (λ functions standing. is_whole (bound_to name standing.scope)
+judge_step (Poke name places value) line = judged_by (emitting_step (Poke name places value) line) true true
+    (λ functions standing. is_whole (bound_to name standing.scope) && (length places == 1)
     && all_fit (map fits places) (around_at functions standing) && fits value (around_at functions standing))
 judge_step (Make kind ty name arguments) line = judged_by (emitting_step (Make kind ty name arguments) line) false false
-    (λ functions standing. (length arguments == kind || length arguments == suc kind) && all_fit (map fits arguments) (around_at functions standing))
+    (λ functions standing. (kind == 1) && (length arguments == 1 || length arguments == 2)
+    && all_fit (map fits arguments) (around_at functions standing))
 judge_step (Take kind ty name input) line = judged_by (emitting_step (Take kind ty name input) line) false false (λ functions standing. false)
 judge_step (Instance instance) line = judged_by (emitting_step (Instance instance) line) false false (λ functions standing. true)
 judge_step (Set name value) line = judged_by (emitting_step (Set name value) line) false false (λ functions standing. false)

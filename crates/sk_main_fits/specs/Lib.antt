@@ -1,0 +1,4 @@
+pub mod Fits
+pub mod Mains
+pub mod StatementFits
+pub mod Vectors

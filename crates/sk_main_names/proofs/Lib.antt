@@ -1,0 +1,11 @@
+pub mod Bodies
+pub mod Calls
+pub mod Choices
+pub mod Expressions
+pub mod Functions
+pub mod Lists
+pub mod Objects
+pub mod Scopes
+pub mod StatementNodes
+pub mod Statements
+pub mod Tests

@@ -65,7 +65,7 @@ no_region (Index dimension ∷ kinds) e = let no : ⊥ = cc in absurd no
 no_region (Proxy dimension ty ∷ kinds) e = let no : ⊥ = cc in absurd no
 no_region (Region dimension ty ∷ kinds) e = let no : ⊥ = cc in absurd no
 
-map_elements : (numbers : List ℤ) (kinds : List ParamKind) → numbers_fit skeleton.Map numbers kinds ≡ true → nat_le (elements_of skeleton.Map numbers kinds) (leading_scalars kinds) ≡ true
+pub map_elements : (numbers : List ℤ) (kinds : List ParamKind) → numbers_fit skeleton.Map numbers kinds ≡ true → nat_le (elements_of skeleton.Map numbers kinds) (leading_scalars kinds) ≡ true
 map_elements [] kinds e = le-leb (leading_scalars kinds) (leading_scalars kinds) (omega arith)
 map_elements (count ∷ []) kinds e = e
 map_elements (count ∷ other ∷ more) kinds e = let no : ⊥ = cc in absurd no
@@ -89,22 +89,26 @@ map_sound object name number elements own low there scalars few =
 
 -- ---- an instance without a fault
 
--- the function that a Map is of
-record IsMade (around : Around) (callees : List (List ℕ × Callee)) (numbers : List ℤ) (names : List (List ℕ)) : Type 0 where
-  number : ℕ
-  function : Function
-  below : number < around.number
-  there : slice_get around.functions number ≡ Some function
-  functions_are : numbers_of callees names ≡ number ∷ []
-  kinds_are : first_kinds callees names ≡ kinds_of function
-  fit : numbers_fit skeleton.Map numbers (kinds_of function) ≡ true
+-- the function that a Map is of, by its name
+pub record IsMade (around : Around) (known : Knowns) (callees : List (List ℕ × Callee)) (numbers : List ℤ) (names : List (List ℕ)) : Type 0 where
+  pub name : List ℕ
+  pub one : names ≡ name ∷ []
+  pub number : ℕ
+  pub function : Function
+  pub meant : bound_to name known ≡ Some (FunctionName number)
+  pub callee : bound_to name callees ≡ Some (known_of number function)
+  pub below : number < around.number
+  pub there : slice_get around.functions number ≡ Some function
+  pub functions_are : numbers_of callees names ≡ number ∷ []
+  pub kinds_are : first_kinds callees names ≡ kinds_of function
+  pub fit : numbers_fit skeleton.Map numbers (kinds_of function) ≡ true
 
 module _ (around : Around) (names : Knowns) (callees : List (List ℕ × Callee)) (numbers : List ℤ) (known : AreKnown around.functions around.number names callees)
     (within : around.number ≤ length around.functions) where
-  function_made : (name : List ℕ) (number : ℕ) → IsKnownAs around.functions around.number (Some (FunctionName number)) (bound_to name callees)
-      → nat_lt number around.number ≡ true → form_faults around skeleton.Map numbers ((if nat_lt number around.number then slice_get around.functions number else None) ∷ []) ≡ []
-      → IsMade around callees numbers (name ∷ [])
-  function_made name number h below e =
+  function_made : (name : List ℕ) (number : ℕ) → bound_to name names ≡ Some (FunctionName number)
+      → IsKnownAs around.functions around.number (Some (FunctionName number)) (bound_to name callees) → nat_lt number around.number ≡ true → form_faults around skeleton.Map numbers ((if nat_lt number around.number then slice_get around.functions number else None) ∷ []) ≡ []
+      → IsMade around names callees numbers (name ∷ [])
+  function_made name number meant h below e =
       let low : number < around.number = ltb-true number around.number below in
       let found = slice_get-in around.functions number (omega (arith, low, within)) in
       let function : Function = found.0 in
@@ -116,8 +120,12 @@ module _ (around : Around) (names : Knowns) (callees : List (List ℕ × Callee)
       let count : List Fault = unless (numbers_fit skeleton.Map numbers (kinds_of function)) around Arity in
       let parts = no_faults shape count (no_faults (shape ++ count) [] told).0 in
       record {
+        name = name;
+        one = refl;
         number = number;
         function = function;
+        meant = meant;
+        callee = callee;
         below = low;
         there = found.1;
         functions_are = ap (λ o. elim o as (λ _. List ℕ) [ Some callee ↦ callee.number ∷ [] | None ↦ [] ]) callee;
@@ -125,13 +133,13 @@ module _ (around : Around) (names : Knowns) (callees : List (List ℕ × Callee)
         fit = unless_kept (numbers_fit skeleton.Map numbers (kinds_of function)) around Arity parts.1;
       }
 
-  one_made : (name : List ℕ) (meant : Option Known) → IsKnownAs around.functions around.number meant (bound_to name callees) → callee_faults around meant ≡ []
-      → form_faults around skeleton.Map numbers (callee_of around meant ∷ []) ≡ [] → IsMade around callees numbers (name ∷ [])
-  one_made name None h e f = let no : ⊥ = cc in absurd no
-  one_made name (Some (FunctionName number)) h e f = function_made name number h (unless_kept (nat_lt number around.number) around Mismatch e) f
-  one_made name (Some (Variable kind)) h e f = let no : ⊥ = cc in absurd no
-  one_made name (Some (InstanceName made)) h e f = let no : ⊥ = cc in absurd no
-  one_made name (Some Broken) h e f = let no : ⊥ = cc in absurd no
+  one_made : (name : List ℕ) (meant : Option Known) → bound_to name names ≡ meant → IsKnownAs around.functions around.number meant (bound_to name callees) → callee_faults around meant ≡ []
+      → form_faults around skeleton.Map numbers (callee_of around meant ∷ []) ≡ [] → IsMade around names callees numbers (name ∷ [])
+  one_made name None is h e f = let no : ⊥ = cc in absurd no
+  one_made name (Some (FunctionName number)) is h e f = function_made name number is h (unless_kept (nat_lt number around.number) around Mismatch e) f
+  one_made name (Some (Variable kind)) is h e f = let no : ⊥ = cc in absurd no
+  one_made name (Some (InstanceName made)) is h e f = let no : ⊥ = cc in absurd no
+  one_made name (Some Broken) is h e f = let no : ⊥ = cc in absurd no
 
   abbrev map_faults : List (List ℕ) → List Fault
   map_faults functions =
@@ -145,19 +153,19 @@ module _ (around : Around) (names : Knowns) (callees : List (List ℕ × Callee)
       by_test true is e = let same : suc (suc count) ≡ 1 = eqb-true (suc (suc count)) 1 is in absurd (omega (arith, same))
       by_test false is e = cc
 
-  map_made : (functions : List (List ℕ)) → map_faults functions ≡ [] → IsMade around callees numbers functions
+  map_made : (functions : List (List ℕ)) → map_faults functions ≡ [] → IsMade around names callees numbers functions
   map_made [] e = let no : ⊥ = cc in absurd no
   map_made (name ∷ []) e =
       let meant : Option Known = bound_to name names in
       let parts = no_faults (callee_faults around meant ++ []) (form_faults around skeleton.Map numbers (callee_of around meant ∷ [])) e in
-      one_made name meant (known.known name) (no_faults (callee_faults around meant) [] parts.0).0 parts.1
+      one_made name meant refl (known.known name) (no_faults (callee_faults around meant) [] parts.0).0 parts.1
   map_made (name ∷ other ∷ more) e =
       let all : List (List ℕ) = name ∷ other ∷ more in
       let forms : List Fault = form_faults around skeleton.Map numbers (map (λ name. callee_of around (bound_to name names)) all) in
       let parts = no_faults (flat_map (λ name. callee_faults around (bound_to name names)) all) (if length all == 1 then forms else fault around Arity) e in
       absurd (many_never (length more) forms parts.1)
 
-is_map_is : (kind : Skeleton) → is_map kind ≡ true → kind ≡ skeleton.Map
+pub is_map_is : (kind : Skeleton) → is_map kind ≡ true → kind ≡ skeleton.Map
 is_map_is skeleton.Map e = refl
 is_map_is skeleton.Reduce e = let no : ⊥ = cc in absurd no
 is_map_is skeleton.Scan e = let no : ⊥ = cc in absurd no
@@ -173,16 +181,23 @@ pub record HasFunctions (object : Object) (functions : List Function) (before : 
   pub signature : (number : ℕ) (function : Function) → number < before → slice_get functions number ≡ Some function
       → (own : Signature) × (slice_get object.signatures number ≡ Some own) × (own.params ≡ kinds_of function) × (list_all is_scalar (kinds_of function) ≡ true)
 
+-- the function of an instance that is a Map
+pub instance_made : (callees : List (List ℕ × Callee)) (around : Around) (names : Knowns) (instance : Instance) → AreKnown around.functions around.number names callees
+    → around.number ≤ length around.functions → is_map instance.skeleton ≡ true → instance_faults around names instance ≡ []
+    → IsMade around names callees instance.numbers instance.functions
+instance_made callees around names instance known within form e =
+    let told : map_faults around names callees instance.numbers known within instance.functions ≡ [] = sym (ap (λ s.
+    flat_map (λ name. callee_faults around (bound_to name names)) instance.functions
+    ++ (if length instance.functions == function_count s then form_faults around s instance.numbers (map (λ name. callee_of around (bound_to name names)) instance.functions)
+    else fault around Arity)) (is_map_is instance.skeleton form)) ∙ e in
+    map_made around names callees instance.numbers known within instance.functions told
+
 module _ (object : Object) (callees : List (List ℕ × Callee)) where
   instance_sound : (around : Around) (names : Knowns) (instance : Instance) → HasFunctions object around.functions around.number → around.number ≤ length around.functions
       → AreKnown around.functions around.number names callees → is_map instance.skeleton ≡ true → instance_faults around names instance ≡ [] → IsSoundPlan object (plan_of callees instance)
   instance_sound around names instance has within known form e =
       let is : instance.skeleton ≡ skeleton.Map = is_map_is instance.skeleton form in
-      let told : map_faults around names callees instance.numbers known within instance.functions ≡ [] = sym (ap (λ s.
-      flat_map (λ name. callee_faults around (bound_to name names)) instance.functions
-      ++ (if length instance.functions == function_count s then form_faults around s instance.numbers (map (λ name. callee_of around (bound_to name names)) instance.functions)
-      else fault around Arity)) is) ∙ e in
-      let made = map_made around names callees instance.numbers known within instance.functions told in
+      let made = instance_made callees around names instance known within form e in
       let own = has.signature made.number made.function made.below made.there in
       let elements : ℕ = elements_of instance.skeleton instance.numbers (first_kinds callees instance.functions) in
       let elements_are : elements ≡ elements_of skeleton.Map instance.numbers (kinds_of made.function) =

@@ -57,15 +57,31 @@ next_known functions number counts names callees function there listed h = recor
       (listed.listed other) (h.known other);
 }
 
--- the instances of main, behind the other functions
-plans_from : (object : Object) (all functions : List Function) (number : ℕ) (counts : Counts) (names : Knowns) (callees : List (List ℕ × Callee))
-    → HasFunctions object all (length all - 1) → number + length functions ≡ length all
-    → ((k : ℕ) (function : Function) → slice_get functions k ≡ Some function → slice_get all (number + k) ≡ Some function)
-    → AreListed all number counts names → AreKnown all number names callees → all_fit (map vector_form_of (last_body functions)) ≡ true
-    → functions_faults all number names functions ≡ [] → All (IsSoundPlan object) (plans_in (known_after number callees (before_last functions)) (last_body functions))
-plans_from object all [] number counts names callees has size places listed known form e = All-nil (IsSoundPlan object)
-plans_from object all (main ∷ []) number counts names callees has size places listed known form e =
-    let around : Around = record { functions = all; number = number; in_main = is_main main []; outermost = true; line = main.line } in
+-- ---- main, behind the other functions
+
+-- where main stands
+abbrev pub main_around : (all : List Function) (number : ℕ) → Function → Around
+main_around all number main = record { functions = all; number = number; in_main = is_main main []; outermost = true; line = main.line }
+
+-- the names in scope of main's body
+abbrev pub names_within : (all : List Function) (number : ℕ) → Function → Knowns → Knowns
+names_within all number main names = (params_walked (main_around all number main) ((main.name, FunctionName number) ∷ names) main.params).names
+
+-- main is reached behind the other functions, and no fault is told of its body
+pub record IsReached (all : List Function) (callees : List (List ℕ × Callee)) (main : Function) : Type 0 where
+  pub number : ℕ
+  pub last : length all - 1 ≡ number
+  pub within : number ≤ length all
+  pub counts : Counts
+  pub names : Knowns
+  pub listed : AreListed all number counts names
+  pub known : AreKnown all number (names_within all number main names) callees
+  pub told : (in_order (map walking_of main.body) (main_around all number main) (names_within all number main names)).faults ≡ []
+
+last_reached : (all : List Function) (main : Function) (number : ℕ) (counts : Counts) (names : Knowns) (callees : List (List ℕ × Callee)) → number + 1 ≡ length all
+    → AreListed all number counts names → AreKnown all number names callees → functions_faults all number names (main ∷ []) ≡ [] → IsReached all callees main
+last_reached all main number counts names callees size listed known e =
+    let around : Around = main_around all number main in
     let within : Knowns = (main.name, FunctionName number) ∷ names in
     let params : Walked = params_walked around within main.params in
     let walked : Walked = in_order (map walking_of main.body) around params.names in
@@ -74,24 +90,49 @@ plans_from object all (main ∷ []) number counts names callees has size places 
     let order = unless (are_ordered (kinds_of main)) around Mismatch in
     let ends = unless (around.in_main || block_returns main.body) around NoReturn in
     let own = (no_faults twice body (no_faults (twice ++ body) [] e).0).1 in
-    let told = (no_faults (params.faults ++ order) walked.faults (no_faults (params.faults ++ order ++ walked.faults) ends own).0).1 in
-    let last : length all - 1 ≡ number = omega (arith, size) in
-    plans_sound object callees main.body around params.names (subst (λ n. HasFunctions object all n) last has) (omega (arith, size))
-    (known_params all number around main.params within callees (known_own all number main.name names callees known)) form told
-plans_from object all (function ∷ next ∷ functions) number counts names callees has size places listed known form e =
+    record {
+      number = number;
+      last = omega (arith, size);
+      within = omega (arith, size);
+      counts = counts;
+      names = names;
+      listed = listed;
+      known = known_params all number around main.params within callees (known_own all number main.name names callees known);
+      told = (no_faults (params.faults ++ order) walked.faults (no_faults (params.faults ++ order ++ walked.faults) ends own).0).1;
+    }
+
+reached_from : (all functions : List Function) (number : ℕ) (counts : Counts) (names : Knowns) (callees : List (List ℕ × Callee)) → number + length functions ≡ length all
+    → ((k : ℕ) (function : Function) → slice_get functions k ≡ Some function → slice_get all (number + k) ≡ Some function)
+    → AreListed all number counts names → AreKnown all number names callees → functions_faults all number names functions ≡ []
+    → (main : Function) → slice_get functions (length functions - 1) ≡ Some main → IsReached all (known_after number callees (before_last functions)) main
+reached_from all [] number counts names callees size places listed known e main there = let no : ⊥ = cc in absurd no
+reached_from all (last ∷ []) number counts names callees size places listed known e main there =
+    subst (λ (f : Function). IsReached all callees f) (some_same last main there) (last_reached all last number counts names callees size listed known e)
+reached_from all (function ∷ next ∷ functions) number counts names callees size places listed known e main there =
     let rest : List Function = next ∷ functions in
     let length_is : length (function ∷ next ∷ functions) - 1 ≡ suc (length (next ∷ functions) - 1) = omega arith in
     let around : Around = record { functions = all; number = number; in_main = false; outermost = true; line = function.line } in
     let within : Knowns = (function.name, FunctionName number) ∷ names in
     let told = no_faults (twice_faults around names function.name ++ body_faults around within function) (functions_faults all (suc number) within rest) e in
     let z : number + 0 ≡ number = omega arith in
-    let there : slice_get all number ≡ Some function = subst (λ n. slice_get all n ≡ Some function) z (places 0 function refl) in
-    let more = plans_from object all (next ∷ functions) (suc number) ((function.name, length function.params) ∷ counts) within ((function.name, known_of number function) ∷ callees)
-    has (omega (arith, size))
+    let own : slice_get all number ≡ Some function = subst (λ n. slice_get all n ≡ Some function) z (places 0 function refl) in
+    let more = reached_from all (next ∷ functions) (suc number) ((function.name, length function.params) ∷ counts) within ((function.name, known_of number function) ∷ callees)
+    (omega (arith, size))
     (λ k f is. let n : number + suc k ≡ suc number + k = omega arith in subst (λ m. slice_get all m ≡ Some f) n (places (suc k) f is))
-    (next_listed all number counts names function there listed) (next_known all number counts names callees function there listed known)
-    (sym (ap (λ n. all_fit (map vector_form_of (body_of (slice_get (function ∷ rest) n)))) length_is) ∙ form) told.1 in
-    subst (λ n. All (IsSoundPlan object) (plans_in (known_after number callees (take n (function ∷ rest))) (body_of (slice_get (function ∷ rest) n)))) (sym length_is) more
+    (next_listed all number counts names function own listed) (next_known all number counts names callees function own listed known) told.1
+    main (sym (ap (λ n. slice_get (function ∷ rest) n) length_is) ∙ there) in
+    subst (λ n. IsReached all (known_after number callees (take n (function ∷ rest))) main) (sym length_is) more
+
+-- main of a typed program
+pub main_reached : (program : Program) → IsTyped program → (main : Function) → slice_get program.functions (length program.functions - 1) ≡ Some main
+    → IsReached program.functions (known_functions (functions_before_main program)) main
+main_reached program typed main there =
+    let all : List Function = program.functions in
+    let own = functions_faults all 0 [] all in
+    let inputs = input_faults_after [] (all_taken program) in
+    let told = (no_faults own inputs (no_faults (own ++ inputs) (main_faults program) typed).0).0 in
+    reached_from all all 0 [] [] [] (omega arith) (λ k f is. let n : k ≡ 0 + k = omega arith in subst (λ m. slice_get all m ≡ Some f) n is)
+    (record { listed = λ name. tt }) (record { known = λ name. tt }) told main there
 
 -- ---- the compiled form
 
@@ -117,12 +158,11 @@ signature_there (first ∷ functions) number known zero function e = (signature_
 signature_there (first ∷ functions) number known (suc k) function e =
     signature_there functions (suc number) ((first.name, known_of number first) ∷ known) k function e
 
-each_takes_scalars : (functions : List Function) → list_all takes_scalars functions ≡ true → (k : ℕ) (function : Function) → slice_get functions k ≡ Some function → takes_scalars function ≡ true
-each_takes_scalars [] all k function e = let no : ⊥ = cc in absurd no
-each_takes_scalars (first ∷ functions) all zero function e =
-    subst (λ (f : Function). takes_scalars f ≡ true) (some_same first function e) (and_left (takes_scalars first) (list_all takes_scalars functions) all)
-each_takes_scalars (first ∷ functions) all (suc k) function e =
-    each_takes_scalars functions (and_right (takes_scalars first) (list_all takes_scalars functions) all) k function e
+-- what holds of all elements holds of each
+pub all_at : {A : Type 0} (test : A → Bool) (xs : List A) → list_all test xs ≡ true → (k : ℕ) (x : A) → slice_get xs k ≡ Some x → test x ≡ true
+all_at test [] all k x e = let no : ⊥ = cc in absurd no
+all_at test (first ∷ xs) all zero x e = subst (λ y. test y ≡ true) (some_same first x e) (and_left (test first) (list_all test xs) all)
+all_at test (first ∷ xs) all (suc k) x e = all_at test xs (and_right (test first) (list_all test xs) all) k x e
 
 has_functions : (program : Program) → list_all takes_scalars (functions_before_main program) ≡ true
     → HasFunctions (functions_object program) program.functions (length program.functions - 1)
@@ -139,22 +179,32 @@ has_functions program scalars =
             own.0,
             slice_get-front (signatures_of functions) (main_signature ∷ []) number own.0 own.1,
             own.2,
-            scalar_kinds function.params (each_takes_scalars functions scalars number function found),
+            scalar_kinds function.params (all_at takes_scalars functions scalars number function found),
           );
     }
+
+-- the instances of main
+module _ (program : Program) (typed : IsTyped program) (form : HasVectorForm program) where
+  abbrev object : Object
+  object = functions_object program
+
+  abbrev callees : List (List ℕ × Callee)
+  callees = known_functions (functions_before_main program)
+
+  plans_of_main : (found : Option Function) → slice_get program.functions (length program.functions - 1) ≡ found → All (IsSoundPlan object) (plans_in callees (body_of found))
+  plans_of_main None there = All-nil (IsSoundPlan object)
+  plans_of_main (Some main) there =
+      let r = main_reached program typed main there in
+      let has = subst (λ n. HasFunctions object program.functions n) r.last (has_functions program form.functions) in
+      let formed : all_fit (map vector_form_of main.body) ≡ true = sym (ap (λ o. all_fit (map vector_form_of (body_of o))) there) ∙ form.main in
+      plans_sound object callees main.body (main_around program.functions r.number main) (names_within program.functions r.number main r.names) has r.within r.known formed r.told
 
 pub typed_vectors_plain : (program : Program) → IsTyped program → IsFromTextWithin program → HasVectorForm program → IsPlain program
 typed_vectors_plain program typed from form =
     let all : List Function = program.functions in
-    let object : Object = functions_object program in
-    let own = functions_faults all 0 [] all in
-    let inputs = input_faults_after [] (all_taken program) in
-    let told = (no_faults own inputs (no_faults (own ++ inputs) (main_faults program) typed).0).0 in
     let many : length (functions_before_main program) ≡ length all - 1 = taken_length (length all - 1) all (omega arith) in
-    let plans = plans_from object all all 0 [] [] [] (has_functions program form.functions) (omega arith)
-    (λ k f is. let n : k ≡ 0 + k = omega arith in subst (λ m. slice_get all m ≡ Some f) n is)
-    (record { listed = λ name. tt }) (record { known = λ name. tt }) form.main told in
+    let plans = plans_of_main program typed form (slice_get all (length all - 1)) refl in
     record {
       functions = typed_functions_plain program typed (texts_formed program from) form.functions;
-      instances = subst (λ n. All (IsSoundPlan object) (plans_in (known_functions (functions_before_main program)) (body_of (slice_get all n)))) (sym many) plans;
+      instances = subst (λ n. All (IsSoundPlan (functions_object program)) (plans_in (known_functions (functions_before_main program)) (body_of (slice_get all n)))) (sym many) plans;
     }

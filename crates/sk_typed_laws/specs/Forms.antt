@@ -118,7 +118,7 @@ is_map Map = true
 is_map skeleton = false
 
 -- Containers are vectors without an input, instances are Maps, and there are no settings. A `for` begins with a declaration of
--- a scalar or an assignment to one, and its step is an assignment to one.
+-- a scalar or an assignment, and its step is an assignment, to a scalar or to an element.
 pub record VectorForm : Type 0 where
   pub fits : Bool
   pub is_light : Bool
@@ -133,7 +133,7 @@ all_fit statements = list_all (λ (statement : VectorForm). statement.fits) stat
 abbrev pub vector_step : What-F VectorForm VectorForm → VectorForm
 vector_step (Declare ty name expr) = record { fits = true; is_light = true; is_step = false }
 vector_step (Assign name expr) = record { fits = true; is_light = true; is_step = true }
-vector_step (Poke name places expr) = only_fits true
+vector_step (Poke name places expr) = record { fits = true; is_light = true; is_step = true }
 vector_step (Make dimension ty name arguments) = only_fits (dimension == 1)
 vector_step (Take dimension ty name input) = only_fits false
 vector_step (Instance instance) = only_fits (is_map instance.skeleton)

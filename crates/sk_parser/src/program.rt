@@ -1,7 +1,7 @@
 ghost use Rattle.std.specs.Prelude.{◌≢◌, ◌<◌, ◌^◌, length, IfOk, IfErr};
 ghost use Rattle.sk_grammar.specs.Limits.{ReadsWithin};
 ghost use Rattle.sk_reader.specs.Tells.{Tells};
-ghost use Rattle.sk_reading.specs.ReadingPrograms.{RefusesAt};
+ghost use Rattle.sk_refusals.specs.Refusals.{IsRefusal};
 ghost use Rattle.sk_tree.specs.declared.tree.Program.{Program};
 
 use sk_reader::{ParseFault, functions};
@@ -16,7 +16,7 @@ pub fn parse(alloc: Global, tokens: &[Token]) -> Result<Program, ParseFault>
     requires { length tokens.now < 2 ^ 31 }
     ensures found { IfOk result (λ program. ReadsWithin tokens.now program) }
     ensures refused { IfErr result (λ fault. fault ≢ ParseFault.Memory → (program : Program) → ReadsWithin tokens.now program → ⊥) }
-    ensures told { IfErr result (Tells (RefusesAt tokens.now)) }
+    ensures told { IfErr result (Tells (IsRefusal tokens.now)) }
 {
     let functions = functions(alloc, tokens)?;
     Ok(Program { functions })

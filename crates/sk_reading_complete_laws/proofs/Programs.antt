@@ -78,7 +78,7 @@ viewed-ok lines k meant t w is free r n i =
 view-no_index : (k : List ℕ) (meant : Ty → ParamKind) → meant_by signs.view_words k ≡ Some meant → meant_by index_words k ≡ None
 view-no_index k meant is = apart index_words signs.view_words k meant (refl, (refl, (refl, (refl, (refl, (refl, tt)))))) is
 
-parameter-ok : (a : Parameter) → IsLawfulParameter a → (r : List Token) (n i : ℕ) → reading.parameter (at (parameter_in_front a r) n i) ≡ Read (parameter_tree a, at r n i)
+pub parameter-ok : (a : Parameter) → IsLawfulParameter a → (r : List Token) (n i : ℕ) → reading.parameter (at (parameter_in_front a r) n i) ≡ Read (parameter_tree a, at r n i)
 unfolding reading.parameter reading.qualified reading.constant reading.indexed reading.begins_index front front_word keyword_of advance sees expect same_sign expect_keyword sees_keyword same_keyword
 parameter-ok (Parameter.ScalarParameter lines t w) free r n i =
     by-type t (lines 0) (word w (lines 1) ∷ r) (at (typed t (lines 0) ∷ word w (lines 1) ∷ r) n i) ∙ scalar-ok lines t w free r n i
@@ -94,7 +94,7 @@ parameter_longer (Parameter.IndexParameter lines k meant w) r = omega arith
 parameter_longer (Parameter.ViewParameter lines k meant t w) r = omega arith
 parameter_longer (Parameter.ConstParameter line lines k meant t w) r = omega arith
 
-parameters_longer : (l : List (Parameter × ℕ)) (r : List Token) → length l + length r ≤ length (with_commas parameter_in_front l r)
+pub parameters_longer : (l : List (Parameter × ℕ)) (r : List Token) → length l + length r ≤ length (with_commas parameter_in_front l r)
 parameters_longer l r = commas_longer parameter_in_front parameter_longer l r
 
 typed-begins : (t : Ty) (line : ℕ) (r : List Token) → reading.begins_parameter (front_of (typed t line ∷ r)) ≡ true
@@ -102,7 +102,7 @@ unfolding keyword_of
 typed-begins Int line r = refl
 typed-begins Long line r = refl
 
-parameter-begins : (a : Parameter) (r : List Token) → reading.begins_parameter (front_of (parameter_in_front a r)) ≡ true
+pub parameter-begins : (a : Parameter) (r : List Token) → reading.begins_parameter (front_of (parameter_in_front a r)) ≡ true
 unfolding keyword_of
 parameter-begins (Parameter.ScalarParameter lines t w) r = typed-begins t (lines 0) (word w (lines 1) ∷ r)
 parameter-begins (Parameter.IndexParameter lines k meant w) r = refl
@@ -140,7 +140,7 @@ parameter-not_close (Parameter.IndexParameter lines k meant w) r = refl
 parameter-not_close (Parameter.ViewParameter lines k meant t w) r = refl
 parameter-not_close (Parameter.ConstParameter line lines k meant t w) r = refl
 
-parameters-not_close : (a : Parameter × ℕ) (l : List (Parameter × ℕ)) (r : List Token) → is_sign sign.CloseParen (front_of (with_commas parameter_in_front (a ∷ l) r)) ≡ false
+pub parameters-not_close : (a : Parameter × ℕ) (l : List (Parameter × ℕ)) (r : List Token) → is_sign sign.CloseParen (front_of (with_commas parameter_in_front (a ∷ l) r)) ≡ false
 parameters-not_close a [] r = parameter-not_close a.0 r
 parameters-not_close a (b ∷ l) r = parameter-not_close a.0 (sign_at sign.Comma a.1 ∷ with_commas parameter_in_front (b ∷ l) r)
 
@@ -169,12 +169,12 @@ function-ok d lawful fits r n i j sum most =
           (rw (parameters-ok d.params lawful.1 fits.0 (d.at 3) (block_in_front d.body r) n i) (rw read refl))),
     )
 
-typed-not_end : (t : Ty) (line : ℕ) (r : List Token) → reading.is_end (front_of (typed t line ∷ r)) ≡ false
+pub typed-not_end : (t : Ty) (line : ℕ) (r : List Token) → reading.is_end (front_of (typed t line ∷ r)) ≡ false
 unfolding keyword_of
 typed-not_end Int line r = refl
 typed-not_end Long line r = refl
 
-definitions_longer : (l : Spelling) → IsLawfulSpelling l → length l ≤ length (tokens_in l)
+pub definitions_longer : (l : Spelling) → IsLawfulSpelling l → length l ≤ length (tokens_in l)
 definitions_longer [] lawful = omega arith
 definitions_longer (d ∷ l) lawful =
     let rest = tokens_in l in

@@ -61,7 +61,7 @@ pub record Takes (token : Token) (p q : Place) : Type 0 where
   pub instances : q.instances ≡ p.instances
 
 -- the token has this kind
-token-is : (token : Token) (what : TokenKind) → token.what ≡ what → token ≡ record { what = what; line = token.line }
+pub token-is : (token : Token) (what : TokenKind) → token.what ≡ what → token ≡ record { what = what; line = token.line }
 token-is token what is = ap (λ (w : TokenKind). let t : Token = record { what = w; line = token.line } in t) is
 
 no_word : {A : Type 0} (o : Option Keyword) (s : Sign) → word_next o ≡ next.Sign s → A
@@ -129,7 +129,7 @@ none-meant {A} (entry ∷ entries) w h = go (same_bytes entry.0 w) refl h (none-
     go true is h later = absurd (cc)
     go false is h later = or-false (same_bytes entry.0 w) (list_any (λ other. same_bytes other w) (map (λ entry. entry.0) entries)) is (later h)
 
-free-name : (w : List ℕ) → keyword_of w ≡ None → IsTrue (is_name w)
+pub free-name : (w : List ℕ) → keyword_of w ≡ None → IsTrue (is_name w)
 unfolding keyword_of is_name
 free-name w h = ap not (none-meant keyword_words w h)
 
@@ -215,7 +215,7 @@ text-takes p x h =
 
 -- ---- keywords
 
-abbrev key_word : Keyword → List ℕ
+abbrev pub key_word : Keyword → List ℕ
 key_word key.Int = codes "int"
 key_word key.Long = codes "long"
 key_word key.Auto = codes "auto"

@@ -44,13 +44,14 @@ pub record ExceedsIn (refusal : Refusal) (token : ℕ) (spelling : Spelling) : T
   pub found : slice_get (marks_in spelling) token ≡ Some mark
   pub exceeds : Exceeds refusal mark
 
--- What is wrong at a token. A limit is exceeded there where it is so in each program that begins with the tokens, as far as
--- any program does: so a parenthesis begins a conversion only where a type follows it.
-pub data IsWrongAt (tokens : List Token) (most : ℕ) : Refusal → (token : ℕ) → Type 0 where
-  NoSyntax : most < length tokens ⊎ ((program : Program) → Reads tokens program → ⊥) → IsWrongAt tokens most Syntax most
-  TooMuch : (refusal : Refusal) (token : ℕ) → token < most
+-- What is wrong at a token. The grammar refuses the first token with which no program begins, or the end. A limit is
+-- exceeded where some of the tokens begin a program and it is so in each program that begins with them: so a parenthesis
+-- begins a conversion only where a type follows it.
+pub data IsWrongAt (tokens : List Token) : Refusal → (token : ℕ) → Type 0 where
+  NoSyntax : (most : ℕ) → Reaches tokens most → most < length tokens ⊎ ((program : Program) → Reads tokens program → ⊥) → IsWrongAt tokens Syntax most
+  TooMuch : (refusal : Refusal) (token most : ℕ) → token < most → most ≤ length tokens → Begins (take most tokens)
       → ((spelling : Spelling) → Continues (take most tokens) spelling → ExceedsIn refusal token spelling)
-      → IsWrongAt tokens most refusal token
+      → IsWrongAt tokens refusal token
 
 -- at one token the grammar comes before nesting, and nesting before counts
 abbrev pub order_of : Refusal → ℕ
@@ -60,8 +61,5 @@ order_of (Many what) = 2
 
 -- The fault of the tokens stands at the least token at which something is wrong, and is the first of what is wrong there.
 pub record IsRefusal (tokens : List Token) (refusal : Refusal) (token : ℕ) : Type 0 where
-  pub most : ℕ
-  pub reaches : Reaches tokens most
-  pub wrong : IsWrongAt tokens most refusal token
-  pub least : (other : Refusal) (at : ℕ) → IsWrongAt tokens most other at
-      → (token < at) ⊎ ((token ≡ at) × (order_of refusal ≤ order_of other))
+  pub wrong : IsWrongAt tokens refusal token
+  pub least : (other : Refusal) (at : ℕ) → IsWrongAt tokens other at → (token < at) ⊎ ((token ≡ at) × (order_of refusal ≤ order_of other))

@@ -50,7 +50,7 @@ unfolding reading.value_inside
 value_inside-ok s lawful left small r h n i = whole-inside s (readable s lawful) left 0 (nodes_in s) i r small.0 (omega arith) small.1 h
 
 -- the nodes of the last one are left
-abbrev last_nodes : Arguments → ℕ
+abbrev pub last_nodes : Arguments → ℕ
 last_nodes (Arguments.Last s) = nodes_in s
 last_nodes (Arguments.More s line ss) = last_nodes ss
 
@@ -113,7 +113,7 @@ is-update sign.OpenParen u is = absurd (cc)
 is-update sign.OpenBracket u is = absurd (cc)
 is-update other u is = record { dot = refl; semi = refl; brace = refl; place = refl }
 
-target-variable : (left : ℕ) (w : List ℕ) (nx : Next) (p : Place) → opens_place nx ≡ false → reading.target_by left w nx p ≡ Read (Variable w, p)
+pub target-variable : (left : ℕ) (w : List ℕ) (nx : Next) (p : Place) → opens_place nx ≡ false → reading.target_by left w nx p ≡ Read (Variable w, p)
 target-variable left w (next.Sign sign.OpenParen) p h = absurd (cc)
 target-variable left w (next.Sign sign.OpenBracket) p h = absurd (cc)
 target-variable left w (next.Sign s) p h = refl

@@ -36,7 +36,7 @@ StatementListIsRead ss = (left line turns n i j : ℕ) (found : List Statement) 
     → (m : ℕ) × (reading.statements_from left (reading.part_below left) turns found (at (statements_in_front ss (sign_at sign.CloseBrace line ∷ r)) n i)
     ≡ Read (found ++ statements_tree ss, at (sign_at sign.CloseBrace line ∷ r) m j))
 
-part-inside : (left : ℕ) (kind : Part) (p : Place) → reading.part_below (suc left) kind p ≡ reading.part left (reading.part_below left) kind p
+pub part-inside : (left : ℕ) (kind : Part) (p : Place) → reading.part_below (suc left) kind p ≡ reading.part left (reading.part_below left) kind p
 unfolding reading.part_below
 part-inside left kind p = refl
 
@@ -54,7 +54,7 @@ done-reads left line zero n i j found r fits sum most enough = absurd (omega ari
 done-reads left line (suc turns) n i j found r fits sum most enough =
     (n, ap (λ l. Read (l, at (sign_at sign.CloseBrace line ∷ r) n i)) (sym (append-nil found)) ∙ ap (λ k. Read (found ++ [], at (sign_at sign.CloseBrace line ∷ r) n k)) (same_number i j sum))
 
-no-else : (ss : Statements) → AreLawfulStatements ss → (line : ℕ) (r : List Token) → NoElse (statements_in_front ss (sign_at sign.CloseBrace line ∷ r))
+pub no-else : (ss : Statements) → AreLawfulStatements ss → (line : ℕ) (r : List Token) → NoElse (statements_in_front ss (sign_at sign.CloseBrace line ∷ r))
 no-else Statements.Done lawful line r = refl
 no-else (Statements.Then w ss) lawful line r = (begins w (statements_in_front ss (sign_at sign.CloseBrace line ∷ r)) lawful.0).1
 
@@ -73,7 +73,7 @@ nothing-reads : OtherwiseIsRead Otherwise.Nothing
 unfolding reading.otherwise front sees_keyword
 nothing-reads left n i j r fits sum most h = (n, rw h (ap (λ k. Read ([], at r n k)) (same_number i j sum)))
 
-block-first : (b : Block) (r : List Token) → is_keyword key.If (front_of (block_in_front b r)) ≡ false
+pub block-first : (b : Block) (r : List Token) → is_keyword key.If (front_of (block_in_front b r)) ≡ false
 block-first (Block.Braces lines ss) r = refl
 
 else-reads : (line : ℕ) (b : Block) → BlockIsRead b → OtherwiseIsRead (Otherwise.Else line b)

@@ -48,12 +48,12 @@ declaration-ok lines t w s free lawful left small r h n i =
     (rw (name-ok w (lines 1) (sign_at sign.Eq (lines 2) ∷ in_front s r) n i free) (rw (value-ok s lawful left small r h n i) refl))
 
 -- by the type that comes first
-by-type : (t : Ty) (line : ℕ) (left : ℕ) (p : Place) (r : List Token) → front_of r ≡ front_of (typed t line ∷ []) → assignments.simple_by left (front_of r) p ≡ assignments.declaration left p
+pub by-type : (t : Ty) (line : ℕ) (left : ℕ) (p : Place) (r : List Token) → front_of r ≡ front_of (typed t line ∷ []) → assignments.simple_by left (front_of r) p ≡ assignments.declaration left p
 unfolding keyword_of
 by-type Int line left p r h = rw h refl
 by-type Long line left p r h = rw h refl
 
-not-type : (left : ℕ) (a : spelling.Assignment) → spelling.IsLawfulAssignment a → (r : List Token) (p : Place)
+pub not-type : (left : ℕ) (a : spelling.Assignment) → spelling.IsLawfulAssignment a → (r : List Token) (p : Place)
     → assignments.simple_by left (front_of (spelling.assignment_in_front a r)) p ≡ assignments.assignment left p
 not-type left (spelling.Assignment.Assign (spelling.Target.Variable line w) line' sg how s) lawful r p = rw (keyword-none w lawful.0) refl
 not-type left (spelling.Assignment.Assign (spelling.Target.Element lines w ss) line' sg how s) lawful r p = rw (keyword-none w lawful.0.0) refl
@@ -95,7 +95,7 @@ numbers_from-ok (a ∷ b ∷ l) some line (suc turns) found r n i enough =
 pub names-tokens : (l : List ((ℕ × List ℕ) × ℕ)) (r : List Token) → 0 < length l → length r < length (with_commas spelling.a_name l r)
 names-tokens l r some = omega (arith, commas_longer spelling.a_name (λ w r. omega arith) l r)
 
-names_from-ok : (l : List ((ℕ × List ℕ) × ℕ)) → 0 < length l → each (λ written. IsName written.0.1) l → (line turns : ℕ) (found : List (List ℕ)) (r : List Token) (n i : ℕ)
+pub names_from-ok : (l : List ((ℕ × List ℕ) × ℕ)) → 0 < length l → each (λ written. IsName written.0.1) l → (line turns : ℕ) (found : List (List ℕ)) (r : List Token) (n i : ℕ)
     → length (with_commas spelling.a_name l (sign_at sign.CloseParen line ∷ r)) ≤ turns
     → reading.names_from turns found (at (with_commas spelling.a_name l (sign_at sign.CloseParen line ∷ r)) n i)
     ≡ Read (found ++ map (λ written. written.0.1) l, at (sign_at sign.CloseParen line ∷ r) n i)
@@ -109,7 +109,7 @@ names_from-ok (a ∷ b ∷ l) some free line (suc turns) found r n i enough =
     (names_from-ok (b ∷ l) (omega arith) free.1 line turns (found ++ a.0.1 ∷ []) r n i (omega arith)
     ∙ ap (λ k. Read (k, at (sign_at sign.CloseParen line ∷ r) n i)) (append_assoc found (a.0.1 ∷ []) (map (λ written. written.0.1) (b ∷ l))))
 
-numbers-ok : (ns : spelling.Numbers) → spelling.AreLawfulNumbers ns → (line : ℕ) (r : List Token) (n i : ℕ)
+pub numbers-ok : (ns : spelling.Numbers) → spelling.AreLawfulNumbers ns → (line : ℕ) (r : List Token) (n i : ℕ)
     → reading.numbers (at (spelling.numbers_in_front ns (sign_at sign.OpenParen line ∷ r)) n i) ≡ Read (spelling.numbers_tree ns, at (sign_at sign.OpenParen line ∷ r) n i)
 unfolding reading.numbers sees front after advance same_sign expect
 numbers-ok spelling.Numbers.NoNumbers lawful line r n i = refl
@@ -232,18 +232,18 @@ set_overlap-ok lines w ss free lawful (suc left) fits r n i =
     let (m, read) = places-ok ss lawful left (lines 4) end fits n i in
     (m, set-ok lines w (codes "setOverlap") words.Overlap (setting.Overlap (trees_in ss)) (arguments_in_front ss (sign_at sign.CloseParen (lines 4) ∷ end)) free refl left r n m i (rw read refl))
 
-mode-ok : {A : Type 0} (lines : TokenLines) (family : List (List ℕ × Unit {0})) (modes : List (List ℕ × A)) (f m : List ℕ) (a : A) (r : List Token) (n i : ℕ)
+pub mode-ok : {A : Type 0} (lines : TokenLines) (family : List (List ℕ × Unit {0})) (modes : List (List ℕ × A)) (f m : List ℕ) (a : A) (r : List Token) (n i : ℕ)
     → meant_by family f ≡ Some tt → meant_by modes m ≡ Some a
     → reading.mode family modes (at (word (codes "skepu") (lines 4) ∷ sign_at sign.Path (lines 5) ∷ word f (lines 6) ∷ sign_at sign.Path (lines 7) ∷ word m (lines 8) ∷ r) n i) ≡ Read (a, at r n i)
 unfolding reading.mode front advance sees expect same_sign keyword_of expect_keyword sees_keyword same_keyword
 mode-ok lines family modes f m a r n i is-family is-mode =
     rw (word_in-ok family f tt (lines 6) (sign_at sign.Path (lines 7) ∷ word m (lines 8) ∷ r) n i is-family) (rw (word_in-ok modes m a (lines 8) r n i is-mode) refl)
 
-mode-tokens : TokenLines → List ℕ → List ℕ → List Token → List Token
+unfoldable pub mode-tokens : TokenLines → List ℕ → List ℕ → List Token → List Token
 mode-tokens lines f m r = word (codes "skepu") (lines 4) ∷ sign_at sign.Path (lines 5) ∷ word f (lines 6) ∷ sign_at sign.Path (lines 7) ∷ word m (lines 8) ∷ r
 
 -- what a setting with this family's mode reads as
-family-reads : (lines : TokenLines) (k : List ℕ) (family : Family) (m : List ℕ) (made : Setting) → meant_by mode_words k ≡ Some family → meant_by family.modes m ≡ Some made
+pub family-reads : (lines : TokenLines) (k : List ℕ) (family : Family) (m : List ℕ) (made : Setting) → meant_by mode_words k ≡ Some family → meant_by family.modes m ≡ Some made
     → (left : ℕ) (r : List Token) (n i : ℕ)
     → (kind : SettingWord) × (meant_by reading.setting_words k ≡ Some kind) × (reading.set_by left kind (at (mode-tokens lines family.name m r) n i) ≡ Read (made, at r n i))
 unfolding mode-tokens
@@ -317,11 +317,11 @@ items-tokens ((line, spelling.Printed.PrintedEnd lines) ∷ l) r lawful = omega 
 items-tokens ((line, spelling.Printed.PrintedValue s) ∷ l) r lawful = omega (arith, items-tokens l r lawful.1, longer s (in_sequence spelling.shifted_in_front l r))
 
 -- what follows an item
-follows-item : (l : List (ℕ × spelling.Printed)) (line : ℕ) (r : List Token) → Ends 2 (in_sequence spelling.shifted_in_front l (sign_at sign.Semi line ∷ r))
+pub follows-item : (l : List (ℕ × spelling.Printed)) (line : ℕ) (r : List Token) → Ends 2 (in_sequence spelling.shifted_in_front l (sign_at sign.Semi line ∷ r))
 follows-item [] line r = tt
 follows-item (a ∷ l) line r = omega arith
 
-value-first : (left : ℕ) (nx : Next) (p : Place) → begins_expression nx ≡ true → reading.printed_by left nx p ≡ and_then (assignments.value left Sum p) (λ e q. Read (item.Value e, q))
+pub value-first : (left : ℕ) (nx : Next) (p : Place) → begins_expression nx ≡ true → reading.printed_by left nx p ≡ and_then (assignments.value left Sum p) (λ e q. Read (item.Value e, q))
 value-first left (next.Keyword k) p h = absurd (cc)
 value-first left next.Text p h = absurd (cc)
 value-first left other p h = refl

@@ -58,12 +58,12 @@ same_number i j h = omega arith
 
 -- ---- declarations and assignments
 
-declares : (t : Ty) (line left : ℕ) (r : List Token) (p : Place) → forms.short_by left (front_of (typed t line ∷ r)) p ≡ assignments.declaration left p
+pub declares : (t : Ty) (line left : ℕ) (r : List Token) (p : Place) → forms.short_by left (front_of (typed t line ∷ r)) p ≡ assignments.declaration left p
 unfolding keyword_of
 declares Int line left r p = refl
 declares Long line left r p = refl
 
-typed-short : (t : Ty) (line : ℕ) (r : List Token) → IsShort (front_of (typed t line ∷ r))
+pub typed-short : (t : Ty) (line : ℕ) (r : List Token) → IsShort (front_of (typed t line ∷ r))
 unfolding keyword_of
 typed-short Int line r left of p = refl
 typed-short Long line r left of p = refl
@@ -78,7 +78,7 @@ declare-short lines t w s line free lawful left n i j r fits sum most =
           (ap (λ k. Read (what.Declare t w (tree_in s), at r (nodes_in s) k)) (same_number i j sum))),
     )
 
-second-not-dot : (t : Target) (sg : Sign) (line : ℕ) (r : List Token) → IsUpdate sg → is_sign sign.Dot (front_of (drop 1 (StatementSpelling.target_in_front t (sign_at sg line ∷ r)))) ≡ false
+pub second-not-dot : (t : Target) (sg : Sign) (line : ℕ) (r : List Token) → IsUpdate sg → is_sign sign.Dot (front_of (drop 1 (StatementSpelling.target_in_front t (sign_at sg line ∷ r)))) ≡ false
 unfolding same_sign
 second-not-dot (Target.Variable line' w) sg line r update = update.dot
 second-not-dot (Target.Element lines w ss) sg line r update = refl

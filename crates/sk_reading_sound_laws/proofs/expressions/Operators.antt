@@ -28,7 +28,7 @@ at_reach-is reach (Some i) j h = go (infix_level i + reach == 10) refl h
         (h, subst (λ k. infix_level k + reach ≡ 10) (some-is h) level)
     go false is h = absurd (cc)
 
-infix_at-is : (reach : ℕ) (nx : Next) (j : Infix) → infix_at reach nx ≡ Some j → (sg : Sign) × (nx ≡ next.Sign sg) × (infix_of sg ≡ Some j) × (infix_level j + reach ≡ 10)
+pub infix_at-is : (reach : ℕ) (nx : Next) (j : Infix) → infix_at reach nx ≡ Some j → (sg : Sign) × (nx ≡ next.Sign sg) × (infix_of sg ≡ Some j) × (infix_level j + reach ≡ 10)
 infix_at-is reach (next.Sign s) j h = let (is, level) = at_reach-is reach (infix_of s) j h in (s, refl, is, level)
 infix_at-is reach (next.Keyword k) j h = absurd (cc)
 infix_at-is reach next.Name j h = absurd (cc)

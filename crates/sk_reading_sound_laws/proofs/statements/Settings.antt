@@ -35,7 +35,7 @@ record SetsTo (left : ℕ) (p : Place) (kind : SettingWord) (made : Setting) (q 
   none : (l0 l1 l2 l3 l4 line : ℕ) (w kw : List ℕ) → written_instances (written l0 l1 l2 l3 l4 line w kw) ≡ 0
   instances : q.instances ≡ p.instances
 
-abbrev setting_word : SettingWord → List ℕ
+abbrev pub setting_word : SettingWord → List ℕ
 setting_word words.Start = codes "setStartValue"
 setting_word words.Pad = codes "setPad"
 setting_word words.Overlap = codes "setOverlap"
@@ -43,7 +43,7 @@ setting_word words.Scan = codes "setScanMode"
 setting_word words.Lines = codes "setReduceMode"
 setting_word words.Edge = codes "setEdgeMode"
 
-setting-word : (kw : List ℕ) (kind : SettingWord) → meant_by reading.setting_words kw ≡ Some kind → kw ≡ setting_word kind
+pub setting-word : (kw : List ℕ) (kind : SettingWord) → meant_by reading.setting_words kw ≡ Some kind → kw ≡ setting_word kind
 setting-word kw kind h = word-of setting_word reading.setting_words kw kind (refl, (refl, (refl, (refl, (refl, (refl, tt)))))) h
 
 set-value : (left : ℕ) (kind : SettingWord) (sets : Expr → Setting) → meant_by value_words (setting_word kind) ≡ Some sets → (p : Place) (a : Expr × Place)

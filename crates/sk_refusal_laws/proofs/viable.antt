@@ -1,0 +1,12 @@
+pub mod Assignments
+pub mod Begun
+pub mod Blocks
+pub mod Containers
+pub mod Forms
+pub mod Instances
+pub mod Leads
+pub mod Operands
+pub mod Operators
+pub mod Programs
+pub mod Settings
+pub mod Tokens

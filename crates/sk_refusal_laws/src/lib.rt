@@ -1,0 +1,12 @@
+//! The laws that what the reading refuses of a list of tokens is the fault of the list, by the definition of faults.
+//!
+//! - `proofs/Local` and its kin, up to `proofs/Programs`: two lists that part behind a token are read alike up to there.
+//! - `proofs/spelled`: a program is read as far as its marks keep the limits, and stops at the first one that does not.
+//! - `proofs/Refused`: so what is refused of a list is refused of each program that goes on so.
+//! - `proofs/viable`: the tokens up to where the reading stops can be completed to a program.
+//! - `proofs/Fault`: the law. `proofs/OneFault`: that a list has no other fault, and a program none.
+#![tactic(auto)]
+
+mod laws;
+
+pub use laws::{a_list_has_one_fault, a_program_has_no_fault, what_is_refused_is_the_fault};

@@ -86,11 +86,11 @@ done_push instr known block height after levels levels_after rows level pushed l
       let more = pushed.more in
       let size : length levels_after ≡ length levels = ap length pushed.levels_are ∙ length-set levels height level in
       omega arith;
-  leads = λ place within.
-      subst (λ (n : ℕ). Leads instr (known place) (stack_of levels rows block place (known place) height) (stack_of levels_after rows block place (known place) n)) (sym pushed.more)
-      (subst (λ (xs : List ℤ). Leads instr (known place) (stack_of levels rows block place (known place) height) xs)
-      (sym (on_top levels levels_after rows rows block place (known place) height level within pushed.room pushed.levels_are (λ index less. refl)))
-      (leads place (stack_of levels rows block place (known place) height) within));
+  leads = λ place within rest.
+      subst (λ (n : ℕ). Leads instr (known place) (stack_of levels rows block place (known place) rest height) (stack_of levels_after rows block place (known place) rest n)) (sym pushed.more)
+      (subst (λ (xs : List ℤ). Leads instr (known place) (stack_of levels rows block place (known place) rest height) xs)
+      (sym (on_top levels levels_after rows rows block place (known place) rest height level within pushed.room pushed.levels_are (λ index less. refl)))
+      (leads place (stack_of levels rows block place (known place) rest height) within));
 }
 
 -- a number is pushed
@@ -142,8 +142,8 @@ done_two instr act known block (suc (suc d)) after levels levels_after rows rows
     subst (λ (n : ℕ). (index : ℕ) → index < n * block → slice_index_or rows_after index (pos 0) ≡ slice_index_or rows index (pos 0)) low kept in
     record {
       inside = inside;
-      leads = λ place within.
-          let stack = stack_of levels rows block place (known place) d in
+      leads = λ place within rest.
+          let stack = stack_of levels rows block place (known place) rest d in
           let value = slice_index_or rows_after (d * block + place) (pos 0) in
           let left = cell_of (slice_index_or levels d Here) rows (d * block + place) (known place) in
           let right = cell_of (slice_index_or levels (suc d) Here) rows (suc d * block + place) (known place) in
@@ -154,9 +154,9 @@ done_two instr act known block (suc (suc d)) after levels levels_after rows rows
           (subst (λ (n : ℕ). made_by act (cell_of (slice_index_or levels (suc (suc d) - 2) Here) rows ((suc (suc d) - 2) * block + place) (known place))
           (cell_of (slice_index_or levels n Here) rows ((suc (suc d) - 2) * block + block + place) (known place)) ≡ Ok (slice_index_or rows_after ((suc (suc d) - 2) * block + place) (pos 0))) high
           (made place within)) in
-          subst (λ (n : ℕ). Leads instr (known place) (right ∷ left ∷ stack) (stack_of levels_after rows_after block place (known place) n)) (sym (less ∙ high))
+          subst (λ (n : ℕ). Leads instr (known place) (right ∷ left ∷ stack) (stack_of levels_after rows_after block place (known place) rest n)) (sym (less ∙ high))
           (subst (λ (xs : List ℤ). Leads instr (known place) (right ∷ left ∷ stack) xs)
-          (sym (on_top levels levels_after rows rows_after block place (known place) d Here within (omega arith) set below))
+          (sym (on_top levels levels_after rows rows_after block place (known place) rest d Here within (omega arith) set below))
           (takes.leads (known place) left right value stack makes));
     }
 
@@ -176,14 +176,14 @@ done_one instr act known block (suc d) levels levels_after rows rows_after takes
     subst (λ (n : ℕ). (index : ℕ) → index < n * block → slice_index_or rows_after index (pos 0) ≡ slice_index_or rows index (pos 0)) low kept in
     record {
       inside = inside;
-      leads = λ place within.
-          let stack = stack_of levels rows block place (known place) d in
+      leads = λ place within rest.
+          let stack = stack_of levels rows block place (known place) rest d in
           let value = slice_index_or rows_after (d * block + place) (pos 0) in
           let left = cell_of (slice_index_or levels d Here) rows (d * block + place) (known place) in
           let makes : made_by act left (pos 0) ≡ Ok value =
           subst (λ (n : ℕ). made_by act (cell_of (slice_index_or levels n Here) rows (n * block + place) (known place)) (pos 0) ≡ Ok (slice_index_or rows_after (n * block + place) (pos 0))) low
           (made place within) in
           subst (λ (xs : List ℤ). Leads instr (known place) (left ∷ stack) xs)
-          (sym (on_top levels levels_after rows rows_after block place (known place) d Here within (omega arith) set below))
+          (sym (on_top levels levels_after rows rows_after block place (known place) rest d Here within (omega arith) set below))
           (takes.leads (known place) left value stack makes);
     }

@@ -1,15 +1,16 @@
 -- Code at the places of a block.
-use Rattle.std.specs.Prelude.{◌≡◌, ℕ, zero, suc, ◌+◌, ◌*◌, ◌<◌, ◌≤◌, Bool, true, false, List, [], ◌∷◌, length, ℤ, pos, Option, Some, Ok, slice_get, slice_set, slice_index_or}
+use Rattle.std.specs.Prelude.{◌≡◌, ℕ, zero, suc, ◌+◌, ◌*◌, ◌<◌, ◌≤◌, Bool, true, false, List, [], ◌∷◌, length, ℤ, pos, Option, Some, Result, Ok, slice_get, slice_set, slice_index_or}
+use Rattle.sk_base.specs.declared.number.Trap.{Trap}
 use Rattle.sk_isa.specs.Coded.{Point, Routine, next_of, outcome_of}
 use Rattle.sk_isa.specs.Configurations.{Goes, Ended}
 use Rattle.sk_isa.specs.declared.code.Instr.{Instr}
-use Rattle.sk_isa.specs.declared.code.Instr.TheVariants.{Push, Load, Neg, Inv, Not, Wrap, Binary, Ret}
+use Rattle.sk_isa.specs.declared.code.Instr.TheVariants.{Push, Load, Neg, Inv, Not, Wrap, Binary, Jump, Zero, Ret}
 use Rattle.sk_columns.specs.Cells.{cell_of, made_by}
 use Rattle.sk_columns.specs.declared.combine.Action.{Action}
 use Rattle.sk_columns.specs.declared.level.Level.{Level}
 use Rattle.sk_columns.specs.declared.level.Level.TheVariants.{Here}
 
--- the instructions of straight code
+-- the instructions of straight code, and of code that chooses between values
 abbrev pub is_straight : Instr → Bool
 is_straight (Push number) = true
 is_straight (Load slot) = true
@@ -18,6 +19,8 @@ is_straight (Inv ty) = true
 is_straight Not = true
 is_straight Wrap = true
 is_straight (Binary op ty) = true
+is_straight (Jump to) = true
+is_straight (Zero to) = true
 is_straight Ret = true
 is_straight instr = false
 
@@ -34,11 +37,21 @@ pub record Gives (instrs : List Instr) (known : ℕ → Option ℤ) (number : �
   pub ends : (routine : Routine) (slots : List ℤ) (turns : ℕ) → routine.instrs ≡ instrs → Have known slots
       → (steps : ℕ) × (outcome_of routine steps (point_of 0 [] slots turns) ≡ Ended (Ok (number, turns)))
 
--- the stack at a place of a block: the cells of so many levels there, the latest first
-abbrev pub stack_of : List Level → (rows : List ℤ) → (block place : ℕ) → (known : ℕ → Option ℤ) → (height : ℕ) → List ℤ
-stack_of levels rows block place known zero = []
-stack_of levels rows block place known (suc fewer) =
-    cell_of (slice_index_or levels fewer Here) rows (fewer * block + place) known ∷ stack_of levels rows block place known fewer
+-- a run from a point comes to this result
+abbrev pub Comes : Routine → Point → Result (ℤ × ℕ) Trap → Type 0
+Comes routine point result = (steps : ℕ) × (outcome_of routine steps point ≡ Ended result)
+
+-- Code leads from an address with one stack to another address with another stack: with what runs end from there, they end
+-- from here.
+pub record Reaches (instrs : List Instr) (known : ℕ → Option ℤ) (from : ℕ) (before : List ℤ) (to : ℕ) (after : List ℤ) : Type 0 where
+  pub comes : (routine : Routine) (slots : List ℤ) (turns : ℕ) (result : Result (ℤ × ℕ) Trap) → routine.instrs ≡ instrs → Have known slots
+      → Comes routine (point_of to after slots turns) result → Comes routine (point_of from before slots turns) result
+
+-- the stack at a place of a block: the cells of so many levels there, the latest first, on those that stood there before
+abbrev pub stack_of : List Level → (rows : List ℤ) → (block place : ℕ) → (known : ℕ → Option ℤ) → (rest : List ℤ) → (height : ℕ) → List ℤ
+stack_of levels rows block place known rest zero = rest
+stack_of levels rows block place known rest (suc fewer) =
+    cell_of (slice_index_or levels fewer Here) rows (fewer * block + place) known ∷ stack_of levels rows block place known rest fewer
 
 -- an instruction leads from one stack to another, at the next address, whatever else there is
 pub record Leads (instr : Instr) (known : ℕ → Option ℤ) (before after : List ℤ) : Type 0 where
@@ -50,9 +63,17 @@ pub record Leads (instr : Instr) (known : ℕ → Option ℤ) (before after : Li
 pub record IsDone (instr : Instr) (known : ℕ → ℕ → Option ℤ) (block height : ℕ) (levels : List Level) (rows : List ℤ) (after : ℕ)
     (levels_after : List Level) (rows_after : List ℤ) : Type 0 where
   pub inside : after ≤ length levels_after
-  pub leads : (place : ℕ) → place < block
-      → Leads instr (known place) (stack_of levels rows block place (known place) height)
-      (stack_of levels_after rows_after block place (known place) after)
+  pub leads : (place : ℕ) → place < block → (rest : List ℤ)
+      → Leads instr (known place) (stack_of levels rows block place (known place) rest height)
+      (stack_of levels_after rows_after block place (known place) rest after)
+
+-- A choice was done at all places of a block: the code leads from the stack of so many levels at each place to another one of
+-- as many, at an address behind the choice.
+pub record IsChosen (instrs : List Instr) (known : ℕ → ℕ → Option ℤ) (block at height : ℕ) (levels : List Level) (rows : List ℤ) (end : ℕ)
+    (levels_after : List Level) (rows_after : List ℤ) : Type 0 where
+  pub reaches : (place : ℕ) → place < block → (rest : List ℤ)
+      → Reaches instrs (known place) at (stack_of levels rows block place (known place) rest height)
+      end (stack_of levels_after rows_after block place (known place) rest height)
 
 -- an instruction puts what an action makes of the two topmost cells in their place
 pub record TakesTwo (instr : Instr) (action : Action) : Type 0 where

@@ -95,3 +95,23 @@ fn apply_row<F: Cellwise, L: Lanes>(
     }
     true
 }
+
+/// Puts the cells of a level into its row.
+pub fn settle<L: Lanes>(lanes: &L, level: Level, row: &mut [Cell]) -> bool
+    requires lends { L.lends lanes.now }
+    ensures { result ≡ true → (place : ℕ) → place < length row.old
+        → cell_of level row.old place (L.known lanes.now place) ≡ slice_index_or row.new place (pos 0) }
+{
+    match level {
+        Level::Here => {}
+        Level::Number(number) => fill(row, number),
+        Level::Column(slot) => {
+            let column = lanes.column(slot);
+            if column.len() != row.len() {
+                return false;
+            }
+            row.copy_from_slice(column);
+        }
+    }
+    true
+}

@@ -3,8 +3,9 @@ ghost use Rattle.std.specs.Prelude.{◌≡◌, ◌≢◌, ℕ, ℤ, Ok, ◌<◌,
 ghost use Rattle.sk_base.specs.Arithmetic.{InRange, op_of};
 ghost use Rattle.sk_columns.specs.Cells.{Takes, cell_of, divides, is_bitwise, made_by};
 
-use crate::apply::apply;
+use crate::apply::{apply, settle};
 use crate::arithmetic::is_of;
+use crate::divide::{divide, remain};
 use crate::lanes::Lanes;
 use crate::level::Level;
 use crate::loops::{are_of, has_zero};
@@ -64,6 +65,15 @@ fn combine_two<L: Lanes>(
     let block = to.len();
     if divides(op) && may_be_zero(lanes, right, above, block) {
         return false;
+    }
+    match (op, ty, right) {
+        (Op::Div, Ty::Int, Level::Number(divisor)) => {
+            return settle(lanes, left, to) && divide(to, divisor);
+        }
+        (Op::Rem, Ty::Int, Level::Number(divisor)) => {
+            return settle(lanes, left, to) && remain(to, divisor);
+        }
+        _ => {}
     }
     if is_bitwise(op)
         && !(is_all_of(ty, lanes, left, to, block) && is_all_of(ty, lanes, right, above, block))

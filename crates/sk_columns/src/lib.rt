@@ -2,22 +2,24 @@
 //!
 //! - `lanes`: the arguments of a block of places.
 //! - `level`: where the numbers of a value on the stack stand.
-//! - `block`: the run of a code for a block.
+//! - `block`: the run of a code for a block, with choices between values.
 //! - `step`: what one instruction does for a block.
 //! - `combine`: which loop does what an instruction asks for.
 //! - `apply`: an operator on two levels, whatever they are.
+//! - `divide`: quotients and remainders by one number.
 //! - `loops`: an operator on all cells of a row.
 //! - `operators`: the operators on two cells, each at both types.
 //! - `arithmetic`: their values.
 //!
-//! Each instruction is executed for all places of the block before the next one. A code that is not straight, and a trap,
-//! are left to the caller.
+//! Each instruction is executed for all places of the block before the next one, and both sides of a choice are. Every other
+//! jump, and a trap, are left to the caller.
 #![tactic(auto)]
 
 mod apply;
 mod arithmetic;
 mod block;
 mod combine;
+mod divide;
 mod lanes;
 mod level;
 mod loops;

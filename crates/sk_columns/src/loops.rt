@@ -1,6 +1,7 @@
 //! An operator on all cells of a row. The value goes into the row of the left operand.
-ghost use Rattle.std.specs.Prelude.{◌≡◌, ◌≢◌, ℕ, ◌<◌, length, pos, Ok, true, false, slice_index_or};
+ghost use Rattle.std.specs.Prelude.{◌≡◌, ◌≢◌, if◌then◌else◌, ℕ, ◌<◌, length, pos, Ok, true, false, slice_index_or};
 ghost use Rattle.sk_base.specs.Arithmetic.{InRange};
+ghost use Rattle.sk_meaning.specs.Expressions.{holds};
 
 use crate::arithmetic::is_of;
 use crate::operators::Cellwise;
@@ -54,6 +55,26 @@ pub fn onto_by<F: Cellwise>(f: &F, to: &mut [Cell], left: &[Cell], right: Cell)
     }
 }
 
+/// Puts into each cell that of one of two rows: of the first one where the cell is another number than 0.
+pub fn select(to: &mut [Cell], one: &[Cell], two: &[Cell])
+    requires one { length to.old ≡ length one.now }
+    requires two { length to.old ≡ length two.now }
+    ensures { (place : ℕ) → place < length to.old
+        → slice_index_or to.new place (pos 0) ≡ (if holds (slice_index_or to.old place (pos 0)) then slice_index_or one.now place (pos 0) else slice_index_or two.now place (pos 0)) }
+{
+    for k in 0..to.len() {
+        to[k] = selected(to[k], one[k], two[k]);
+    }
+}
+
+/// One of two numbers, as a test tells.
+#[inline]
+fn selected(test: Cell, one: Cell, two: Cell) -> Cell
+    ensures { result ≡ (if holds test then one else two) }
+{
+    if test == 0 { two } else { one }
+}
+
 /// One number in all cells.
 pub fn fill(to: &mut [Cell], number: Cell)
     ensures { (place : ℕ) → place < length to.old → slice_index_or to.new place (pos 0) ≡ number }
@@ -69,7 +90,7 @@ pub fn has_zero(row: &[Cell]) -> bool
 {
     let mut found = false;
     for k in 0..row.len() {
-        found = found || row[k] == 0;
+        found |= row[k] == 0;
     }
     found
 }
@@ -80,7 +101,7 @@ pub fn are_of(ty: Ty, row: &[Cell]) -> bool
 {
     let mut all = true;
     for k in 0..row.len() {
-        all = all && is_of(ty, row[k]);
+        all &= is_of(ty, row[k]);
     }
     all
 }

@@ -1,5 +1,5 @@
 //! What one instruction does for a block of places.
-ghost use Rattle.std.specs.Prelude.{◌≡◌, ℕ, ℤ, Some, Ok, IfSome, ◌<◌, ◌≤◌, ◌+◌, ◌-◌, ◌*◌, suc, length, pos, true, List, ◌∷◌, slice_set, slice_index_or};
+ghost use Rattle.std.specs.Prelude.{◌≡◌, ℕ, ℤ, Some, Ok, IfSome, ◌<◌, ◌≤◌, ◌+◌, ◌-◌, ◌*◌, suc, length, pos, true, List, ◌∷◌, ◌++◌, slice_set, slice_index_or};
 ghost use Rattle.sk_isa.specs.declared.code.Instr.{Instr as Instructions};
 ghost use Rattle.sk_columns.specs.Blocks.{IsDone, IsPushed, TakesOne, TakesTwo};
 ghost use Rattle.sk_columns.specs.Cells.{cell_of, made_by};
@@ -11,29 +11,36 @@ use sk_base::Cell;
 use sk_isa::Instr;
 
 /// Executes an instruction for a block of places, with so many values on the stack, and gives how many there are then. It
-/// gives nothing where it cannot be done.
+/// gives nothing where it cannot be done. The row of the first level stands alone, and those of the others above it.
 pub fn step<L: Lanes>(
     instr: &Instr,
     lanes: &L,
-    block: usize,
     height: usize,
     levels: &mut [Level],
-    rows: &mut [Cell],
+    first: &mut [Cell],
+    above: &mut [Cell],
 ) -> Option<usize>
     requires lends { L.lends lanes.now }
     requires inside { height ≤ length levels.old }
-    ensures { IfSome result (λ after. IsDone instr.now (L.known lanes.now) block height levels.old rows.old after levels.new rows.new) }
+    ensures { IfSome result (λ after. IsDone instr.now (L.known lanes.now) (length first.old) height levels.old (first.old ++ above.old) after levels.new (first.new ++ above.new)) }
 {
     match instr {
         Instr::Push(number) => push(Level::Number(*number), height, levels),
-        Instr::Load(slot) => load(lanes, *slot, block, height, levels),
+        Instr::Load(slot) => load(lanes, *slot, first.len(), height, levels),
         Instr::Binary(op, ty) => {
-            binary(Action::Binary(*op, *ty), lanes, block, height, levels, rows)
+            binary(
+                Action::Binary(*op, *ty),
+                lanes,
+                height,
+                levels,
+                first,
+                above,
+            )
         }
-        Instr::Neg(ty) => unary(Action::Negate(*ty), lanes, block, height, levels, rows),
-        Instr::Inv(_) => unary(Action::Invert, lanes, block, height, levels, rows),
-        Instr::Not => unary(Action::Deny, lanes, block, height, levels, rows),
-        Instr::Wrap => unary(Action::Wrap, lanes, block, height, levels, rows),
+        Instr::Neg(ty) => unary(Action::Negate(*ty), lanes, height, levels, first, above),
+        Instr::Inv(_) => unary(Action::Invert, lanes, height, levels, first, above),
+        Instr::Not => unary(Action::Deny, lanes, height, levels, first, above),
+        Instr::Wrap => unary(Action::Wrap, lanes, height, levels, first, above),
         _ => None,
     }
 }
@@ -73,22 +80,22 @@ fn load<L: Lanes>(
 fn binary<L: Lanes>(
     action: Action,
     lanes: &L,
-    block: usize,
     height: usize,
     levels: &mut [Level],
-    rows: &mut [Cell],
+    first: &mut [Cell],
+    above: &mut [Cell],
 ) -> Option<usize>
     requires lends { L.lends lanes.now }
     requires inside { height ≤ length levels.old }
     ensures { (instr : Instructions) → TakesTwo instr action
-        → IfSome result (λ after. IsDone instr (L.known lanes.now) block height levels.old rows.old after levels.new rows.new) }
+        → IfSome result (λ after. IsDone instr (L.known lanes.now) (length first.old) height levels.old (first.old ++ above.old) after levels.new (first.new ++ above.new)) }
 {
     if height < 2 {
         return None;
     }
     let left = levels[height - 2];
     let right = levels[height - 1];
-    if !combine_at(action, lanes, left, right, block, height - 2, rows) {
+    if !combine_at(action, lanes, left, right, height - 2, first, above) {
         return None;
     }
     levels[height - 2] = Level::Here;
@@ -99,15 +106,15 @@ fn binary<L: Lanes>(
 fn unary<L: Lanes>(
     action: Action,
     lanes: &L,
-    block: usize,
     height: usize,
     levels: &mut [Level],
-    rows: &mut [Cell],
+    first: &mut [Cell],
+    above: &mut [Cell],
 ) -> Option<usize>
     requires lends { L.lends lanes.now }
     requires inside { height ≤ length levels.old }
     ensures { (instr : Instructions) → TakesOne instr action
-        → IfSome result (λ after. IsDone instr (L.known lanes.now) block height levels.old rows.old after levels.new rows.new) }
+        → IfSome result (λ after. IsDone instr (L.known lanes.now) (length first.old) height levels.old (first.old ++ above.old) after levels.new (first.new ++ above.new)) }
 {
     if height < 1 {
         return None;
@@ -118,9 +125,9 @@ fn unary<L: Lanes>(
         lanes,
         level,
         Level::Number(0),
-        block,
         height - 1,
-        rows,
+        first,
+        above,
     ) {
         return None;
     }
@@ -130,6 +137,29 @@ fn unary<L: Lanes>(
 
 /// Puts what is made of two levels into the row of this number, which the left one has; the right one has the next.
 fn combine_at<L: Lanes>(
+    action: Action,
+    lanes: &L,
+    left: Level,
+    right: Level,
+    row: usize,
+    first: &mut [Cell],
+    above: &mut [Cell],
+) -> bool
+    requires lends { L.lends lanes.now }
+    ensures below { result ≡ true → (index : ℕ) → index < row * length first.old → slice_index_or (first.new ++ above.new) index (pos 0) ≡ slice_index_or (first.old ++ above.old) index (pos 0) }
+    ensures here { result ≡ true → (place : ℕ) → place < length first.old
+        → made_by action (cell_of left (first.old ++ above.old) (row * length first.old + place) (L.known lanes.now place)) (cell_of right (first.old ++ above.old) (row * length first.old + length first.old + place) (L.known lanes.now place))
+        ≡ Ok (slice_index_or (first.new ++ above.new) (row * length first.old + place) (pos 0)) }
+{
+    if row == 0 {
+        combine(action, lanes, left, right, first, above)
+    } else {
+        combine_above(action, lanes, left, right, first.len(), row - 1, above)
+    }
+}
+
+/// The same in rows above the first one, where they are counted from 0.
+fn combine_above<L: Lanes>(
     action: Action,
     lanes: &L,
     left: Level,

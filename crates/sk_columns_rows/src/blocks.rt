@@ -28,6 +28,9 @@ impl<'a> Lanes for Columns<'a> {
     }
 }
 
+/// As many levels as the codes of these rows need at most, with choices.
+const LEVELS: usize = 7;
+
 /// What a code gives for a block of two columns, where it is evaluated.
 pub fn evaluated(
     alloc: Global,
@@ -37,8 +40,8 @@ pub fn evaluated(
 ) -> Result<Option<Vec<Cell>>, AllocError> {
     let block = left.len();
     let mut out = vec![in alloc; 0; block]?;
-    let mut levels = vec![in alloc; Level::Here; 3]?;
-    let Some(cells) = block.checked_mul(3) else {
+    let mut levels = vec![in alloc; Level::Here; LEVELS]?;
+    let Some(cells) = block.checked_mul(LEVELS - 1) else {
         return Ok(None);
     };
     let mut rows = vec![in alloc; 0; cells]?;
@@ -95,6 +98,46 @@ pub fn expect_longs(
     let wanted = binary(op, Ty::Long, a, b).ok();
     let found = evaluated(alloc, &code_of(op, Ty::Long), &[a], &[b])?;
     assert_eq!(rt; single(found), wanted, "{op:?} at long on {a} and {b}");
+    Ok(())
+}
+
+/// An operator on ints with one right operand at all places is what it is at one place.
+pub fn expect_by_one(
+    rt: &impl Abort,
+    alloc: Global,
+    op: Op,
+    a: i32,
+    b: i32,
+) -> Result<(), AllocError> {
+    let code = [
+        Instr::Load(0),
+        Instr::Push(Cell::from(b)),
+        Instr::Binary(op, Ty::Int),
+        Instr::Ret,
+    ];
+    let wanted = binary(op, Ty::Int, Cell::from(a), Cell::from(b)).ok();
+    let found = evaluated(alloc, &code, &[Cell::from(a)], &[0])?;
+    assert_eq!(rt;
+        single(found),
+        wanted,
+        "{op:?} at int on {a} and {b} at all places"
+    );
+    Ok(())
+}
+
+/// A code gives these cells for two columns, or is not evaluated for them.
+pub fn expect_cells(
+    rt: &impl Abort,
+    alloc: Global,
+    code: &[Instr],
+    left: &[Cell],
+    right: &[Cell],
+    wanted: Option<&[Cell]>,
+) -> Result<(), AllocError> {
+    match (evaluated(alloc, code, left, right)?, wanted) {
+        (Some(cells), Some(wanted)) => assert_eq!(rt; cells.as_slice(), wanted),
+        (found, wanted) => assert!(rt; found.is_none() && wanted.is_none()),
+    }
     Ok(())
 }
 

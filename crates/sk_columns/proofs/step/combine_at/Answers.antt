@@ -1,0 +1,16 @@
+use Rattle.std.proofs.Common.{◌≡◌, ◌-◌, suc, arith}
+use Rattle.sk_columns.proofs.Rows.{kept_above, made_above}
+use Rattle.sk_columns.proofs.step.combine_at.Goals as goal
+
+pub returns-else-row-eq0-clause-below : goal.returns-else-row-eq0-clause-below
+returns-else-row-eq0-clause-below g c = λ done index less.
+    let none = c.if-row-eq0.false in
+    let upper : c.args.row ≡ suc (c.args.row - 1) = omega (arith, none) in
+    kept_above c.args.first.now c.args.above.now c.combine_above.new.rows c.args.row (c.args.row - 1) upper (c.combine_above.ensures.below done) index less
+
+pub returns-else-row-eq0-clause-here : goal.returns-else-row-eq0-clause-here
+returns-else-row-eq0-clause-here g c = λ done place inside.
+    let none = c.if-row-eq0.false in
+    let upper : c.args.row ≡ suc (c.args.row - 1) = omega (arith, none) in
+    made_above c.args.action c.args.left c.args.right c.args.first.now c.args.above.now c.combine_above.new.rows c.args.row (c.args.row - 1) place
+    (g.L.Lanes.known c.args.lanes.now place) upper (c.combine_above.ensures.here done place inside)

@@ -1,5 +1,5 @@
 -- Calls of functions.
-use Rattle.std.proofs.Common.{◌≡◌, ℕ, zero, suc, ◌+◌, ◌-◌, ◌<◌, ◌≤◌, true, false, nat_le, nat_lt, List, [], ◌∷◌, ◌++◌, length, take, drop, map, reverse, replicate, ℤ, pos, Option, Some, None, Ok, slice_get, slice_index_or, slice_set, inl, inr, ◌⊎◌, refl, sym, ap, subst, ◌∙◌, arith}
+use Rattle.std.proofs.Common.{◌≡◌, ℕ, zero, suc, ◌+◌, ◌-◌, ◌<◌, ◌≤◌, true, false, nat_le, nat_lt, List, [], ◌∷◌, ◌++◌, length, take, drop, map, reverse, replicate, ℤ, pos, Option, Some, None, Ok, slice_get, slice_index_or, slice_set, refl, sym, ap, subst, ◌∙◌, arith}
 use Rattle.std.specs.Prelude.{if◌then◌else◌}
 use Rattle.std.proofs.lemmas.Bool.{cond-true, le-leb, leb-true, ltb-true}
 use Rattle.std.proofs.lemmas.List.{get_or-drop, length-drop, length-take-le, reverse-append}
@@ -8,7 +8,6 @@ use Rattle.std.proofs.Math.Seq.{drop-append_seam, get_or-append_seam, take-appen
 use Rattle.sk_base.specs.declared.number.Ty.{Ty}
 use Rattle.sk_meaning.specs.Evaluation.{Value}
 use Rattle.sk_tree.specs.declared.tree.ParamKind.{ParamKind}
-use Rattle.sk_isa.specs.declared.code.Code.{Code}
 use Rattle.sk_isa.specs.declared.code.Instr.TheVariants.{Call}
 use Rattle.sk_isa.specs.declared.object.Object.{Object}
 use Rattle.sk_isa.specs.declared.object.Signature.{Signature}
@@ -21,7 +20,7 @@ use Rattle.sk_isa.specs.SoundObjects.{HasSoundFunctions}
 use Rattle.sk_isa_laws.proofs.Callees.{functions_have_values, function_of-code, there}
 use Rattle.sk_isa_laws.proofs.TypedLists.{typed-length, typed-reverse, typed-take, typed_arguments}
 use Rattle.sk_vm.specs.declared.stack.Stand.{Stand}
-use Rattle.sk_vm.specs.Rooms.{Begins, depth_below, given_to, slots_at, slots_below}
+use Rattle.sk_vm.specs.Rooms.{Begins, given_to, slots_at}
 use Rattle.sk_vm.specs.Points.{values_in, point_at}
 use Rattle.sk_vm.proofs.Starts.{signature_at-is, slots_at-is}
 
@@ -98,31 +97,6 @@ calls-next object sound function callee upto before routine callees point enough
     (sym (function_of-code object callee code.0 (map Value (reverse (take (length own.0.params) point.stack))) point.kept code.1))
     ∙ ap (λ (s : Signature). returning point (drop (length s.params) point.stack)
     (function_of object callee (map Value (reverse (take (length s.params) point.stack))) point.kept)) (sym is)
-
--- what does not fall from a number to the next does not fall from a number to a greater one
-rising : (f : ℕ → ℕ) → ((n : ℕ) → f n ≤ f (suc n)) → (few many : ℕ) → few ≤ many → f few ≤ f many
-rising f up few zero h = subst (λ (n : ℕ). f n ≤ f 0) (none few h) (omega arith)
-  where
-    none : (n : ℕ) → n ≤ 0 → 0 ≡ n
-    none n h = omega arith
-rising f up few (suc many) h = by (λ less. rising f up few many less) (last_or_not few many h)
-  where
-    last_or_not : (a b : ℕ) → a ≤ suc b → (a ≤ b) ⊎ (suc b ≡ a)
-    last_or_not a b h = grind arith
-
-    by : (few ≤ many → f few ≤ f many) → (few ≤ many) ⊎ (suc many ≡ few) → f few ≤ f (suc many)
-    by below (inl less) =
-        let upto = below less in
-        let further = up many in
-        omega arith
-    by below (inr same) = subst (λ (n : ℕ). f n ≤ f (suc many)) same (omega arith)
-
--- functions below take no more room than those below a greater number
-pub depth_below-le : (codes : List Code) (few many : ℕ) → few ≤ many → depth_below codes few ≤ depth_below codes many
-depth_below-le codes = rising (depth_below codes) (λ n. omega arith)
-
-pub slots_below-le : (codes : List Code) (few many : ℕ) → few ≤ many → slots_below codes few ≤ slots_below codes many
-slots_below-le codes = rising (slots_below codes) (λ n. omega arith)
 
 -- the arguments of a call, as they lie in the buffer
 values_in-more : (stack : List ℤ) (top more : ℕ) → more ≡ suc top → values_in stack more ≡ slice_index_or stack top (pos 0) ∷ values_in stack top

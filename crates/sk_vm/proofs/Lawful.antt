@@ -25,8 +25,11 @@ use Rattle.sk_kernel.specs.Instances.{function_meaning, instance_meaning, operat
 use Rattle.sk_isa.specs.SoundObjects.{HasSoundFunctions, IsSoundPlan, TakesScalars, takes_elements}
 use Rattle.sk_isa.specs.Soundness.{SuitParams, is_scalar}
 use Rattle.sk_isa_laws.proofs.TypedLists.{typed_at}
-use Rattle.sk_vm.specs.Instantiated.{IsInstance, IsLawful, RunsOperator}
-use Rattle.sk_vm.specs.Frames.{CountsPairs, Framed, MayRead}
+use Rattle.sk_vm.specs.Instantiated.{Instantiated, IsAtFirst, IsAtOperator, IsLawful, IsOf, Serves}
+use Rattle.sk_vm.specs.Frames.{CountsPairs, Framed, Holds, MayRead}
+use Rattle.sk_vm.specs.Rooms.{AreRooms, room_of}
+use Rattle.sk_vm.specs.declared.rooms.Room.{Room}
+use Rattle.sk_vm.proofs.Chains.{holds-each}
 use Rattle.sk_vm.proofs.Arguments.{element_type, later, none_plus, one_more, plus_none, read_here, taken, uniform_type}
 use Rattle.sk_vm.proofs.Given.{scalars_only}
 
@@ -222,28 +225,40 @@ module _ (object : Object) (sound : HasSoundFunctions object) (scalars : TakesSc
   pub lawful : IsLawful (instance_meaning object plan default_settings)
   lawful = record { never_traps = never; never_traps_joining = joining; depends = depends }
 
--- what an instance's first frame means
-pub frame_meaning : (object : Object) (plan : Plan) (first : Framed) (second : Option Framed) → IsInstance object plan first second
-    → function_meaning object first.function first.reading ≡ function_meaning object (function_at plan 0) (reading_of plan default_settings)
-frame_meaning object plan first second is =
-    ap (λ (f : ℕ). function_meaning object f first.reading) is.function
-    ∙ ap (λ (r : Reading). function_meaning object (function_at plan 0) r) is.reading
+-- what a frame means that is turned to an instance's first function
+pub first_meaning : (object : Object) (instance : Instantiated) (frame : Framed) → object ≡ instance.object → IsAtFirst instance frame
+    → function_meaning object frame.function frame.reading ≡ function_meaning instance.object (function_at instance.plan 0) (reading_of instance.plan default_settings)
+first_meaning object instance frame same first =
+    ap (λ (o : Object). function_meaning o frame.function frame.reading) same
+    ∙ ap (λ (f : ℕ). function_meaning instance.object f frame.reading) first.function
+    ∙ ap (λ (r : Reading). function_meaning instance.object (function_at instance.plan 0) r) first.reading
 
--- what an instance's frames need
-pub frame_operands : (object : Object) (plan : Plan) → IsSoundPlan object plan → (frame : Framed) → RunsOperator object plan (operator_place plan.skeleton) (Some frame)
-    → (a b : ℤ) → IsSomeAnd (operator_type object plan) (λ ty. InRange ty a × InRange ty b)
-    → SuitParams (signature_at object frame.function).params (Value a ∷ Value b ∷ [])
-frame_operands object plan fits frame runs a b joined = by (operator_place plan.skeleton) refl runs joined
+-- numbers that a frame takes that is turned to an instance's operator
+pub operator_suits : (instance : Instantiated) (frame : Framed) → IsSoundPlan instance.object instance.plan → IsAtOperator instance frame
+    → (a b : ℤ) → IsSomeAnd (operator_type instance.object instance.plan) (λ ty. InRange ty a × InRange ty b)
+    → SuitParams (signature_at instance.object frame.function).params (Value a ∷ Value b ∷ [])
+operator_suits instance frame fits turned a b joined = by (operator_place instance.plan.skeleton) refl turned.function joined
   where
-    by : (found : Option ℕ) → operator_place plan.skeleton ≡ found → RunsOperator object plan found (Some frame)
-        → IsSomeAnd (elim found [ Some place ↦ Some (signature_at object (function_at plan place)).ret | None ↦ None ]) (λ ty. InRange ty a × InRange ty b)
-        → SuitParams (signature_at object frame.function).params (Value a ∷ Value b ∷ [])
+    by : (found : Option ℕ) → operator_place instance.plan.skeleton ≡ found → IsSomeAnd found (λ place. frame.function ≡ function_at instance.plan place)
+        → IsSomeAnd (elim found [ Some place ↦ Some (signature_at instance.object (function_at instance.plan place)).ret | None ↦ None ]) (λ ty. InRange ty a × InRange ty b)
+        → SuitParams (signature_at instance.object frame.function).params (Value a ∷ Value b ∷ [])
     by None is runs h = absurd h
     by (Some place) is runs h =
-        subst (λ (f : ℕ). SuitParams (signature_at object f).params (Value a ∷ Value b ∷ [])) (sym runs.1) (operands_suit object plan fits place is a b h.0 h.1)
+        subst (λ (f : ℕ). SuitParams (signature_at instance.object f).params (Value a ∷ Value b ∷ [])) (sym runs)
+        (operands_suit instance.object instance.plan fits place is a b h.0 h.1)
 
 -- the plan of an instance that is there
 pub plan_fits : (object : Object) → HasSoundFunctions object → (number : ℕ) (plan : Plan) → slice_get object.instances number ≡ Some plan → IsSoundPlan object plan
 plan_fits object sound number plan is =
     subst (IsSoundPlan object) (get_or_from_slice_get object.instances number plan plan is)
     (sound.instances number plan (slice_get_within object.instances number plan is))
+
+-- a frame that holds the largest room of a program serves each of its instances
+pub serves-each : (object : Object) (room : Room) (frame : Framed) (number : ℕ) (instance : Instantiated) → AreRooms object room → Holds room frame → IsOf object number instance
+    → Serves instance frame
+serves-each object room frame number instance are holds of = record {
+  room = λ place within.
+      subst (λ (o : Object). Holds (room_of o.functions (function_at instance.plan place)) frame) (sym of.of_object)
+      (holds-each object room frame are holds (function_at instance.plan place)
+      ((plan_fits object are.sound number instance.plan of.of_plan).there place 0 within));
+}

@@ -1,6 +1,7 @@
 pub mod Arguments
 pub mod Arms
 pub mod Calls
+pub mod Chains
 pub mod Evaluated
 pub mod Finds
 pub mod Given

@@ -22,11 +22,12 @@ use Rattle.sk_vm.specs.declared.stack.Stand.{Stand}
 use Rattle.sk_vm.specs.Calls.{MayCall}
 use Rattle.sk_vm.specs.Needs.{Needs}
 use Rattle.sk_vm.specs.Points.{values_in, point_at}
-use Rattle.sk_vm.specs.Rooms.{depth_at, depth_below, slots_below}
-use Rattle.sk_vm.proofs.Calls.{call_found, calls-next, passed, depth_below-le, slots_below-le}
+use Rattle.sk_vm.specs.Rooms.{room_of, slots_at}
+use Rattle.sk_vm.proofs.Calls.{call_found, calls-next, passed}
 use Rattle.sk_vm.proofs.Finds.{needs_met}
+use Rattle.sk_vm.proofs.Chains.{room-callee, room-own}
 use Rattle.sk_vm.proofs.Running.{Running, routine_at}
-use Rattle.sk_vm.proofs.Starts.{signature_at-is}
+use Rattle.sk_vm.proofs.Starts.{signature_at-is, slots_at-is}
 use Rattle.sk_vm.proofs.Values.{length-values_in}
 
 pointwise-length : (given wanted : List Ty) → pointwise serves given wanted ≡ true → length given ≡ length wanted
@@ -80,9 +81,6 @@ scalar_slots object function own scalars is =
     subst (λ (s : Signature). list_all is_scalar s.slots ≡ true) (get_or_from_slice_get object.signatures function own own is)
     (scalars function own (slice_get_within object.signatures function own is))
 
-depth-is : (object : Object) (function : ℕ) (code : Code) → slice_get object.functions function ≡ Some code → depth_at object.functions function ≡ code.depth
-depth-is object function code is = ap (λ (o : Option Code). elim o [ Some code ↦ code.depth | None ↦ 0 ]) is
-
 -- a run in the middle, with an instruction of its address
 module _ (object : Object) (function : ℕ) (begun : List ℤ) (turns : ℕ) (instrs : List Instr) (stand : Stand) (stack slots : List ℤ)
     (running : Running object function begun turns instrs stand stack slots) where
@@ -98,10 +96,10 @@ module _ (object : Object) (function : ℕ) (begun : List ℤ) (turns : ℕ) (in
   tall : length running.point.types ≡ stand.top
   tall = typed-length running.point.types (values_in stack stand.top) running.point.stack ∙ length-values_in stack stand.top
 
-  deep : running.code.depth + depth_below object.functions function ≡ depth_below object.functions (suc function)
-  deep = let is = depth-is object function running.code running.code_at in omega arith
+  deep : running.code.depth ≤ (room_of object.functions function).stack
+  deep = (room-own object.functions function running.code running.code_at).stack
 
-  pub inside : depth_below object.functions (suc function) ≤ length stack → stand.top ≤ length stack
+  pub inside : (room_of object.functions function).stack ≤ length stack → stand.top ≤ length stack
   inside room =
       let fine = running.sound.types.each stand.at running.point.types running.point.there in
       let upto = fine.bounded in
@@ -115,7 +113,7 @@ module _ (object : Object) (function : ℕ) (begun : List ℤ) (turns : ℕ) (in
       (running.sound.types.each stand.at running.point.types running.point.there)
       (ap (λ (is : List Instr). slice_get is stand.at) (sym running.instrs_are) ∙ found)
 
-  pub needs : (instr : Instr) → TakesScalars object → slice_get instrs stand.at ≡ Some instr → depth_below object.functions (suc function) ≤ length stack
+  pub needs : (instr : Instr) → TakesScalars object → slice_get instrs stand.at ≡ Some instr → (room_of object.functions function).stack ≤ length stack
       → Needs instr stand.top stack slots
   needs instr scalars found room =
       let at = here instr found in
@@ -132,7 +130,7 @@ module _ (object : Object) (function : ℕ) (begun : List ℤ) (turns : ℕ) (in
     pub may : MayCall (record { object = object; function = callee }) stand stack rest
 
   pub call_ready : (callee : ℕ) (rest : List ℤ) → function < length object.functions → slice_get instrs stand.at ≡ Some (Call callee)
-      → depth_below object.functions (suc function) ≤ length stack → slots_below object.functions function ≤ length rest → CallReady callee rest
+      → (room_of object.functions function).stack ≤ length stack → (room_of object.functions function).slots ≤ slots_at object.functions function + length rest → CallReady callee rest
   call_ready callee rest upto found deep_enough wide_enough =
       let at = here (Call callee) found in
       let finds = call_found named callee running.point.types at.left (values_in stack stand.top) at.effect running.point.stack in
@@ -144,7 +142,11 @@ module _ (object : Object) (function : ℕ) (begun : List ℤ) (turns : ℕ) (in
       let before = finds.before in
       let behind = at.behind (suc stand.at) (0, omega arith, refl) in
       let low = deep in
-      let below = depth_below-le object.functions (suc callee) function (omega arith) in
+      let found_in : slice_get running.code.instrs stand.at ≡ Some (Call callee) = ap (λ (is : List Instr). slice_get is stand.at) (sym running.instrs_are) ∙ found in
+      let room = room-callee object.functions function running.code running.code_at stand.at callee found_in finds.before in
+      let in_stack = room.stack in
+      let in_slots = room.slots in
+      let own = slots_at-is object.functions function running.code running.code_at in
       let bounded = at.bounded in
       let high = tall in
       record {
@@ -156,7 +158,7 @@ module _ (object : Object) (function : ℕ) (begun : List ℤ) (turns : ℕ) (in
           suited = subst (λ (s : Signature). SuitParams s.params (map Value (reverse (take (length s.params) (values_in stack stand.top))))) (sym is) finds.suited;
           value = omega arith;
           depth = omega arith;
-          slots = let slots = slots_below-le object.functions (suc callee) function (omega arith) in omega arith;
+          slots = omega arith;
         };
       }
 

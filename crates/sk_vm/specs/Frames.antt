@@ -1,12 +1,13 @@
 -- Frames: a function with room for its calls.
-use Rattle.std.specs.Prelude.{◌≡◌, ℕ, suc, Bool, true, false, ◌≤◌, Option, Some, None}
+use Rattle.std.specs.Prelude.{◌≡◌, ℕ, Bool, true, false, ◌≤◌, Option, Some, None}
 use Rattle.sk_arguments.specs.Arguments.{Reading}
 use Rattle.sk_isa.specs.Objects.{signature_at}
 use Rattle.sk_isa.specs.declared.object.Object.{Object}
 use Rattle.sk_tree.specs.InstanceSettings.{default_settings}
 use Rattle.sk_tree.specs.Parameters.{index_dimension}
 use Rattle.sk_vm.specs.Entries.{MayEnter}
-use Rattle.sk_vm.specs.Rooms.{depth_below, slots_below}
+use Rattle.sk_vm.specs.Rooms.{room_of}
+use Rattle.sk_vm.specs.declared.rooms.Room.{Room}
 
 -- a function's number, the dimension of its index parameter if it has one, how it reads its parameters, and how many values
 -- and slots there is room for
@@ -21,8 +22,13 @@ pub record Framed : Type 0 where
 pub record HasRoom (object : Object) (frame : Framed) : Type 0 where
   pub entered : MayEnter (record { object = object; function = frame.function })
   pub index : frame.index ≡ index_dimension (signature_at object frame.function).params
-  pub stack : depth_below object.functions (suc frame.function) ≤ frame.stack
-  pub slots : slots_below object.functions (suc frame.function) ≤ frame.slots
+  pub stack : (room_of object.functions frame.function).stack ≤ frame.stack
+  pub slots : (room_of object.functions frame.function).slots ≤ frame.slots
+
+-- the frame has so much room
+pub record Holds (room : Room) (frame : Framed) : Type 0 where
+  pub stack : room.stack ≤ frame.stack
+  pub slots : room.slots ≤ frame.slots
 
 -- so many elements, at places or at pairs of places, with the settings of an instance that sets none
 abbrev pub reading_by : (elements : ℕ) → (pairs : Bool) → Reading

@@ -1,14 +1,15 @@
 -- Instances as kernels.
-use Rattle.std.specs.Prelude.{◌≡◌, ℕ, Some, None, Option, slice_get}
+use Rattle.std.specs.Prelude.{◌≡◌, ℕ, ◌<◌, Some, IsSomeAnd, length, slice_get}
 use Rattle.sk_isa.specs.Objects.{function_at}
 use Rattle.sk_kernel.specs.Instances.{instance_meaning, reading_of}
 use Rattle.sk_tree.specs.InstanceSettings.{default_settings}
 use Rattle.sk_tree.specs.Skeletons.{operator_place}
 use Rattle.sk_kernel.specs.Kernels.{Meaning, DependsOnReads, NeverTraps, NeverTrapsJoining}
-use Rattle.sk_isa.specs.SoundObjects.{IsSoundPlan}
+use Rattle.sk_isa.specs.SoundObjects.{HasSoundFunctions, IsSoundPlan, TakesScalars}
 use Rattle.sk_isa.specs.declared.object.Object.{Object}
 use Rattle.sk_isa.specs.declared.object.Plan.{Plan}
-use Rattle.sk_vm.specs.Frames.{Framed, HasRoom}
+use Rattle.sk_vm.specs.Frames.{Framed, HasRoom, Holds}
+use Rattle.sk_vm.specs.Rooms.{room_of}
 
 -- Neither the function nor the operator ever traps where the meaning is safe, and the function depends on nothing but what
 -- the meaning says that it reads.
@@ -26,19 +27,27 @@ pub record Instantiated : Type 0 where
 abbrev pub meaning_of : Instantiated → Meaning
 meaning_of instance = instance_meaning instance.object instance.plan default_settings
 
--- a frame for the operator, where there is one
-abbrev pub RunsOperator : Object → Plan → Option ℕ → Option Framed → Type 0
-RunsOperator object plan None frame = Unit {0}
-RunsOperator object plan (Some place) None = ⊥
-RunsOperator object plan (Some place) (Some frame) = HasRoom object frame × (frame.function ≡ function_at plan place)
+-- a frame has room for each function of an instance
+pub record Serves (instance : Instantiated) (frame : Framed) : Type 0 where
+  pub room : (place : ℕ) → place < length instance.plan.functions
+      → Holds (room_of instance.object.functions (function_at instance.plan place)) frame
 
--- the frames with which an instance is run
-pub record IsInstance (object : Object) (plan : Plan) (first : Framed) (second : Option Framed) : Type 0 where
+-- an instance of a sound program whose functions take scalars alone
+pub record IsInstance (object : Object) (plan : Plan) : Type 0 where
+  pub sound : HasSoundFunctions object
+  pub scalars : TakesScalars object
   pub fits : IsSoundPlan object plan
-  pub room : HasRoom object first
-  pub function : first.function ≡ function_at plan 0
-  pub reading : first.reading ≡ reading_of plan default_settings
-  pub operator : RunsOperator object plan (operator_place plan.skeleton) second
+
+-- a frame is turned to the first function of an instance, which reads its parameters as the instance says
+pub record IsAtFirst (instance : Instantiated) (frame : Framed) : Type 0 where
+  pub room : HasRoom instance.object frame
+  pub function : frame.function ≡ function_at instance.plan 0
+  pub reading : frame.reading ≡ reading_of instance.plan default_settings
+
+-- a frame is turned to the operator of an instance
+pub record IsAtOperator (instance : Instantiated) (frame : Framed) : Type 0 where
+  pub room : HasRoom instance.object frame
+  pub function : IsSomeAnd (operator_place instance.plan.skeleton) (λ place. frame.function ≡ function_at instance.plan place)
 
 -- the instance of this number
 pub record IsOf (object : Object) (number : ℕ) (instance : Instantiated) : Type 0 where

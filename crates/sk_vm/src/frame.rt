@@ -1,4 +1,4 @@
-ghost use Rattle.std.specs.Prelude.{◌≡◌, ℕ, ℤ, All, ◌<◌, ◌≤◌, ◌+◌, ◌^◌, suc, true, pos, Ok, List, [], ◌∷◌, length, slice_index_or, IfErr, IfOk};
+ghost use Rattle.std.specs.Prelude.{◌≡◌, ℕ, ℤ, All, ◌<◌, ◌≤◌, ◌+◌, ◌^◌, suc, true, pos, Ok, List, [], ◌∷◌, length, slice_index_or, false, IfErr, IfOk, IsOk, OnErr, OnOk};
 ghost use Rattle.sk_base.specs.Arithmetic.{InRange};
 ghost use Rattle.sk_kernel.specs.Instances.{function_meaning};
 ghost use Rattle.sk_isa.specs.Objects.{invoked, signature_at};
@@ -6,17 +6,19 @@ ghost use Rattle.sk_kernel.specs.Kernels.{Suits, SuitsRun, Agree, AgreeRun, AreV
 ghost use Rattle.sk_isa.specs.SoundObjects.{HasSoundFunctions, TakesScalars};
 ghost use Rattle.sk_isa.specs.Soundness.{SuitParams};
 ghost use Rattle.sk_meaning.specs.Evaluation.{Value};
-ghost use Rattle.sk_vm.specs.Frames.{HasRoom, IsUnread, MayRead, reading_by};
+ghost use Rattle.sk_tree.specs.Parameters.{index_dimension};
+ghost use Rattle.sk_vm.specs.Frames.{HasRoom, Holds, IsUnread, MayRead, reading_by};
 ghost use Rattle.sk_vm.specs.Lent.{ArePart, ArePartOfType};
-ghost use Rattle.sk_vm.specs.Rooms.{depth_below, slots_below};
+ghost use Rattle.sk_vm.specs.Rooms.{AreRooms};
 
 use crate::entry::Entry;
 use crate::lent::Lent;
 use crate::parts::{index_of, place_behind};
+use crate::rooms::{Room, Rooms, height_of, room_of};
 use crate::start::{Reading, start, start_with};
 use sk_base::{Cell, Trap};
-use sk_columns::{Level, evaluate, is_straight};
-use sk_isa::{Code, Object};
+use sk_columns::{Level, evaluate};
+use sk_isa::Object;
 use sk_kernel::{At, Data, RunTrap};
 use std::alloc::{AllocError, Global};
 use std::marker::Model;
@@ -28,6 +30,8 @@ pub struct Frame {
     index: Option<u8>,
     elements: u32,
     pairs: bool,
+    /// Whether runs at many places are evaluated a block at a time.
+    straight: bool,
     stack: Vec<Cell>,
     slots: Vec<Cell>,
     levels: Vec<Level>,
@@ -52,8 +56,8 @@ impl Model for Frame {
 impl Frame {
     /// A frame for a function, with room for all calls below it. All its parameters are uniform arguments.
     ///
-    /// It takes as much room as the functions up to this one have together, and a row of a block's length for each value on
-    /// the stack of a straight function.
+    /// It takes as much room as the function and its calls may have in use at a time, and where it is evaluated for blocks of
+    /// places, a row of a block's length for each level but the first.
     pub fn new(alloc: Global, object: &Object, function: u32) -> Result<Frame, AllocError>
         requires sound { HasSoundFunctions object.now }
         requires scalars { TakesScalars object.now }
@@ -61,18 +65,89 @@ impl Frame {
         ensures made { IfOk result (IsUnread function) }
         ensures room { IfOk result (HasRoom object.now) }
     {
-        let room = room_below(object.functions.as_slice(), function as usize + 1);
-        let height = height_of(object, function);
+        let room = room_of(alloc, object.functions.as_slice(), function)?;
+        let height = height_of(&object.functions.as_slice()[function as usize]);
+        let mut frame = Frame::with_room(alloc, room, height)?;
+        frame.turn_to(object, function, height > 0);
+        Ok(frame)
+    }
+
+    /// A frame with room for each function of a program, to be turned to one.
+    pub fn of(alloc: Global, rooms: &Rooms) -> Result<Frame, AllocError>
+        ensures { IfOk result (Holds rooms.now) }
+    {
+        Frame::with_room(alloc, rooms.room(), rooms.height())
+    }
+
+    /// Turns the frame to a function, all whose parameters are then uniform arguments. It takes a time that does not depend on
+    /// the program, and memory only where there is less room than some function of the program needs.
+    pub fn turn(
+        &mut self,
+        alloc: Global,
+        object: &Object,
+        rooms: &Rooms,
+        function: u32,
+    ) -> Result<(), AllocError>
+        requires rooms { AreRooms object.now rooms.now }
+        requires there { function < length object.now.functions }
+        ensures turned { OnOk result (IsUnread function self.new) }
+        ensures room { OnOk result (HasRoom object.now self.new) }
+        ensures holds { OnOk result (Holds rooms.now self.new) }
+        ensures ready { Holds rooms.now self.old → IsOk result }
+        ensures same { OnErr result (self.new ≡ self.old) }
+    {
+        self.make_ready(alloc, rooms)?;
+        let straight = self.is_straight(rooms, function);
+        self.turn_to(object, function, straight);
+        Ok(())
+    }
+
+    /// Makes room for each function of a program, where there is less.
+    pub(crate) fn make_ready(&mut self, alloc: Global, rooms: &Rooms) -> Result<(), AllocError>
+        ensures holds { OnOk result (Holds rooms.now self.new) }
+        ensures ready { Holds rooms.now self.old → IsOk result }
+        ensures same { OnErr result (self.new ≡ self.old) }
+    {
+        let room = rooms.room();
+        if self.stack.len() < room.stack || self.slots.len() < room.slots {
+            *self = Frame::of(alloc, rooms)?;
+        }
+        Ok(())
+    }
+
+    /// Whether a function is straight, and there are rows for it.
+    pub(crate) fn is_straight(&self, rooms: &Rooms, function: u32) -> bool {
+        rooms.is_straight(function) && rooms.height() <= self.levels.len()
+    }
+
+    /// A frame with so much room, and so many rows.
+    pub(crate) fn with_room(alloc: Global, room: Room, height: usize) -> Result<Frame, AllocError>
+        requires { height ≤ 64 }
+        ensures { IfOk result (Holds room) }
+    {
         Ok(Frame {
-            function,
-            index: index_of(object, function),
+            function: 0,
+            index: None,
             elements: 0,
             pairs: false,
+            straight: false,
             stack: vec![in alloc; 0; room.stack]?,
             slots: vec![in alloc; 0; room.slots]?,
             levels: vec![in alloc; Level::Here; height]?,
-            rows: vec![in alloc; 0; height * BLOCK]?,
+            rows: vec![in alloc; 0; height.saturating_sub(1) * BLOCK]?,
         })
+    }
+
+    /// Turns the frame to a function for which there is room, and for whose blocks there are rows where it is straight.
+    pub(crate) fn turn_to(&mut self, object: &Object, function: u32, straight: bool)
+        requires { function < length object.now.signatures }
+        ensures { self.new ≡ record self.old { function = function; index = index_dimension (signature_at object.now function).params; reading = reading_by 0 false } }
+    {
+        self.function = function;
+        self.index = index_of(object, function);
+        self.elements = 0;
+        self.pairs = false;
+        self.straight = straight;
     }
 
     /// Sets how parameters are read: the first `n` from operands 0 to n - 1, each at the place, and the others as uniform
@@ -133,10 +208,10 @@ impl Frame {
         ensures count { length out.new ≡ length out.old }
         ensures same { self.new ≡ self.old }
     {
-        if self.levels.len() == 0 {
-            self.run_places(object, source, at, out)
-        } else {
+        if self.straight {
             self.run_blocks(object, source, at, out)
+        } else {
+            self.run_places(object, source, at, out)
         }
     }
 
@@ -312,40 +387,3 @@ impl Frame {
 
 /// How many places are evaluated at once.
 const BLOCK: usize = 1024;
-
-/// The most values on the stack of a function that is evaluated for a block of places.
-const MOST_LEVELS: u32 = 64;
-
-/// How many rows a function needs: as many as values may stand on its stack where it is straight, and else none.
-fn height_of(object: &Object, function: u32) -> usize
-    requires { function < length object.now.functions }
-    ensures { result ≤ 64 }
-{
-    let code = &object.functions.as_slice()[function as usize];
-    if code.depth <= MOST_LEVELS && is_straight(code.instrs.as_slice()) {
-        code.depth as usize
-    } else {
-        0
-    }
-}
-
-#[derive(Clone, Copy)]
-struct Room {
-    stack: usize,
-    slots: usize,
-}
-
-/// The room of so many functions together.
-fn room_below(codes: &[Code], count: usize) -> Room
-    requires within { count ≤ length codes.now }
-    requires few { count ≤ 2 ^ 32 }
-    ensures stack { result.stack ≡ depth_below codes.now count }
-    ensures slots { result.slots ≡ slots_below codes.now count }
-{
-    let mut room = Room { stack: 0, slots: 0 };
-    for k in 0..count {
-        room.stack += codes[k].depth as usize;
-        room.slots += codes[k].slots as usize;
-    }
-    room
-}

@@ -26,7 +26,7 @@ pub fn run_code(
     turns: u32,
 ) -> Result<(Cell, u32), Trap>
     requires begins { Begins entry.now.object entry.now.function slots.old }
-    requires space { HasSpace entry.now entry.now.function stack.old rest.old }
+    requires space { HasSpace entry.now stack.old (length slots.old + length rest.old) }
     ensures { result ≡ function_of entry.now.object entry.now.function (map Value (given_to entry.now.object entry.now.function slots.old)) turns }
 {
     let instrs = entry.instrs();

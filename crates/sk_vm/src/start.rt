@@ -1,4 +1,4 @@
-ghost use Rattle.std.specs.Prelude.{◌≡◌, ℕ, ℤ, ◌<◌, ◌≤◌, ◌+◌, ◌-◌, ◌^◌, suc, pos, Some, IsSome, IfOk, List, [], ◌∷◌, length, take, drop, map, replicate};
+ghost use Rattle.std.specs.Prelude.{◌≡◌, ℕ, ℤ, ◌<◌, ◌≤◌, ◌+◌, ◌-◌, ◌^◌, pos, Some, IsSome, IfOk, List, [], ◌∷◌, length, take, drop, map, replicate};
 ghost use Rattle.sk_base.specs.Arithmetic.{InRange};
 ghost use Rattle.sk_kernel.specs.Instances.{function_meaning};
 ghost use Rattle.sk_isa.specs.Objects.{invoked, signature_at};
@@ -33,7 +33,7 @@ pub fn start<D: Data>(
     stack: &mut [Cell],
     slots: &mut [Cell],
 ) -> Result<Cell, Trap>
-    requires space { HasSpace entry.now (suc entry.now.function) stack.old slots.old }
+    requires space { HasSpace entry.now stack.old (length slots.old) }
     requires suits { Suits (function_meaning entry.now.object entry.now.function (reading_by reading.elements reading.pairs)) (D.means source.now) at.place at.pair }
     ensures value { (cells : ℕ → ℕ → ℤ)
         → Agree (function_meaning entry.now.object entry.now.function (reading_by reading.elements reading.pairs)) (D.means source.now) at.place at.pair cells
@@ -56,7 +56,7 @@ pub fn start_with(
     stack: &mut [Cell],
     slots: &mut [Cell],
 ) -> Result<Cell, Trap>
-    requires space { HasSpace entry.now (suc entry.now.function) stack.old slots.old }
+    requires space { HasSpace entry.now stack.old (length slots.old) }
     requires suits { SuitParams (signature_at entry.now.object entry.now.function).params (Value a ∷ Value b ∷ []) }
     ensures value { result ≡ invoked entry.now.object entry.now.function (Value a ∷ Value b ∷ []) }
     ensures range { IfOk result (InRange (signature_at entry.now.object entry.now.function).ret) }

@@ -1,8 +1,8 @@
 -- The program is plain.
-use Rattle.std.proofs.Common.{◌≡◌, ℕ, List, [], ◌∷◌, refl, true, map, Some, pos, arith}
+use Rattle.std.proofs.Common.{◌≡◌, ℕ, List, [], ◌∷◌, refl, sym, subst, true, map, Some, pos, arith, rules}
 use Rattle.std.specs.List.{list_any}
-use Rattle.std.specs.Prelude.{codes}
-use Rattle.std.proofs.lemmas.List.Elements.{All-nil}
+use Rattle.std.specs.Prelude.{All, codes}
+use Rattle.std.proofs.lemmas.List.Elements.{All-cons, All-nil}
 use Rattle.sk_base.specs.declared.number.Op.TheVariants.{Add, Mul, Div, Lt, Gt}
 use Rattle.sk_base.specs.declared.number.Op.{Op}
 use Rattle.sk_base.specs.declared.number.Ty.{Ty}
@@ -16,8 +16,11 @@ use Rattle.sk_plain.specs.Plain.{Counts, ScalarNames, IsPlain, IsPlainFunction, 
 use Rattle.sk_vm_rows.proofs.PlainParts.{number-is-plain, name-is-plain, unary-is-plain, binary-is-plain, both-is-plain, choose-is-plain, call-is-plain, declaration-is-plain, assignment-is-plain, return-is-plain, loop-is-plain, then-is-plain}
 use Rattle.sk_plain.specs.PlainLaws.{walks-Declare, walks-Assign, walks-For, walks-Return}
 use Rattle.sk_scheme.specs.Plans.{functions_object}
-use Rattle.sk_isa.specs.SoundObjects.{IsSoundPlan}
-use Rattle.sk_vm_rows.specs.Programs.{rows_program, int, long, named, stated, function, int_param, grown, quotient, guarded, distance, counted, counting_loop, counting_body, dividing, widened, widening_body, truncating_body}
+use Rattle.sk_isa.specs.Objects.{function_at, signature_at}
+use Rattle.sk_isa.specs.SoundObjects.{IsOperator, IsSoundPlan}
+use Rattle.sk_isa.specs.declared.object.Plan.{Plan}
+use Rattle.sk_vm_rows.specs.Calls.{mapped_plan, reduced_plan}
+use Rattle.sk_vm_rows.specs.Programs.{rows_program, int, long, named, stated, function, int_param, grown, quotient, guarded, distance, counted, counting_loop, counting_body, dividing, widened, widening_body, truncating_body, inverse}
 
 -- a body that ends with the return of a plain expression
 returned-plain : (expr : Expr) (counts : Counts) (names : ScalarNames) → is_plain_expression expr counts names ≡ true
@@ -102,14 +105,14 @@ module _ (counts : Counts) where
       with-number names (codes "a") (named (codes "b")) refl (name-test names (codes "b") refl) Div
 
   module _ (names : ScalarNames) (here : is_among (codes "a") names ≡ true) where
+    inverse-plain : is_plain_expression inverse counts names ≡ true
+    inverse-plain = binary-is-plain counts names (int 10) (named (codes "a")) (int-plain names 10 refl) (name-test names (codes "a") here) Div
+
     guarded-plain : is_plain_expression guarded counts names ≡ true
     guarded-plain =
-        let inverse : Expr = Binary Div (int 10) (named (codes "a")) in
         both-is-plain counts names (Binary Gt (named (codes "a")) (int 0)) (Binary Gt inverse (int 2))
         (with-number names (codes "a") (int 0) here (int-plain names 0 refl) Gt)
-        (binary-is-plain counts names inverse (int 2)
-        (binary-is-plain counts names (int 10) (named (codes "a")) (int-plain names 10 refl) (name-test names (codes "a") here) Div)
-        (int-plain names 2 refl) Gt)
+        (binary-is-plain counts names inverse (int 2) inverse-plain (int-plain names 2 refl) Gt)
 
     distance-plain : is_plain_expression distance counts names ≡ true
     distance-plain =
@@ -168,7 +171,32 @@ module _ (counts : Counts) where
     returns = returned-returns quotient;
   }
 
--- its functions are plain, and it has no instances
+pub rows-plans : (functions_object rows_program).instances ≡ mapped_plan ∷ reduced_plan ∷ []
+rows-plans = refl
+
+mapped-sound : IsSoundPlan (functions_object rows_program) mapped_plan
+mapped-sound = record {
+  count = refl;
+  there = search rules;
+  first = record { ordered = refl; kinds = refl; elements = refl };
+  operator = λ place is. let no : ⊥ = cc in absurd no;
+  sequential = search rules;
+  offered = search rules;
+}
+
+reduced-sound : IsSoundPlan (functions_object rows_program) reduced_plan
+reduced-sound = record {
+  count = refl;
+  there = search rules;
+  first = record { ordered = refl; kinds = refl; elements = refl };
+  operator = λ place is.
+      let at : 1 ≡ place = cc in
+      subst (λ (n : ℕ). IsOperator (signature_at (functions_object rows_program) (function_at reduced_plan n)) Int) at (record { params = refl; ret = refl });
+  sequential = search rules;
+  offered = search rules;
+}
+
+-- its functions are plain, and its instances fit them
 pub rows-plain : IsPlain rows_program
 rows-plain = record {
   functions = (
@@ -185,7 +213,7 @@ rows-plain = record {
               plain-of-one _ Long (codes "w") widening_body (widening-plain _) widening-returns,
               (
                 plain-of-one _ Int (codes "t") truncating_body (truncating-plain _) truncating-returns,
-                record {},
+                (plain-return _ (codes "v") inverse (inverse-plain _ (codes "a" ∷ []) refl), record {}),
               ),
             ),
           ),
@@ -193,5 +221,8 @@ rows-plain = record {
       ),
     ),
   );
-  instances = All-nil (IsSoundPlan (functions_object rows_program));
+  instances =
+      let Is : Plan → Type 0 = IsSoundPlan (functions_object rows_program) in
+      subst (All Is) (sym rows-plans)
+      (All-cons Is mapped_plan (reduced_plan ∷ []) mapped-sound (All-cons Is reduced_plan [] reduced-sound (All-nil Is)));
 }

@@ -9,10 +9,12 @@ use Rattle.sk_tree.specs.declared.tree.Function.{Function}
 use Rattle.sk_tree.specs.declared.tree.Param.{Param}
 use Rattle.sk_tree.specs.declared.tree.ParamKind.TheVariants.{Scalar}
 use Rattle.sk_tree.specs.declared.tree.Program.{Program}
+use Rattle.sk_tree.specs.declared.tree.Skeleton.{Skeleton}
+use Rattle.sk_tree.specs.declared.tree.Skeleton.TheVariants.{Map, MapReduce}
 use Rattle.sk_tree.specs.declared.tree.Statement.{Statement}
 use Rattle.sk_tree.specs.declared.tree.Un.TheVariants.{Neg}
 use Rattle.sk_tree.specs.declared.tree.What.{What}
-use Rattle.sk_tree.specs.declared.tree.What.TheVariants.{Declare, Assign, For, Return}
+use Rattle.sk_tree.specs.declared.tree.What.TheVariants.{Declare, Assign, Instance, For, Return}
 
 -- an int as it is written
 abbrev pub int : ℕ → Expr
@@ -68,9 +70,13 @@ counted = Apply (codes "f") (named (codes "a") ∷ [])
 abbrev pub calling : Function
 calling = function Int (codes "g") (int_param (codes "a") ∷ []) (stated (Return (Binary Add counted counted)) ∷ [])
 
+-- 10 / a
+abbrev pub inverse : Expr
+inverse = Binary Div (int 10) (named (codes "a"))
+
 -- a > 0 && 10 / a > 2
 abbrev pub guarded : Expr
-guarded = Both (Binary Gt (named (codes "a")) (int 0)) (Binary Gt (Binary Div (int 10) (named (codes "a"))) (int 2))
+guarded = Both (Binary Gt (named (codes "a")) (int 0)) (Binary Gt inverse (int 2))
 
 -- int n(int a) { return a > 0 && 10 / a > 2; }
 abbrev pub guarding : Function
@@ -104,13 +110,27 @@ truncating_body =
 abbrev pub truncating : Function
 truncating = function Int (codes "t") (int_param (codes "a") ∷ []) truncating_body
 
--- int main() { return 0; }
+-- int v(int a) { return 10 / a; }
+abbrev pub inverting : Function
+inverting = function Int (codes "v") (int_param (codes "a") ∷ []) (stated (Return inverse) ∷ [])
+
+-- auto name = Skeleton<1>(functions);
+abbrev pub instance : List ℕ → Skeleton → (functions : List (List ℕ)) → Statement
+instance name skeleton functions =
+    stated (Instance (record { name = name; skeleton = skeleton; numbers = pos 1 ∷ []; functions = functions }))
+
+-- int main() { auto m = Map<1>(g); auto r = MapReduce<1>(c, d); return 0; }
+abbrev pub main_body : List Statement
+main_body =
+    instance (codes "m") Map (codes "g" ∷ []) ∷ instance (codes "r") MapReduce (codes "c" ∷ codes "d" ∷ [])
+    ∷ stated (Return (int 0)) ∷ []
+
 abbrev pub main : Function
-main = function Int (codes "main") [] (stated (Return (int 0)) ∷ [])
+main = function Int (codes "main") [] main_body
 
 -- the functions in text order
 abbrev pub rows_program : Program
 rows_program = record {
   functions =
-      counting ∷ dividing ∷ calling ∷ guarding ∷ choosing ∷ widening ∷ truncating ∷ main ∷ [];
+      counting ∷ dividing ∷ calling ∷ guarding ∷ choosing ∷ widening ∷ truncating ∷ inverting ∷ main ∷ [];
 }

@@ -1,7 +1,7 @@
 //! Expressions as trees.
 ghost use Rattle.std.specs.Prelude.{◌≡◌, ◌<◌, ◌^◌, IfOk};
 ghost use Rattle.sk_tree.specs.declared.tree.Expr.TheVariants as expr;
-ghost use Rattle.sk_vm_rows.specs.Programs.{named, int, long, quotient, counted, guarded, distance};
+ghost use Rattle.sk_vm_rows.specs.Programs.{named, int, long, quotient, counted, guarded, inverse, distance};
 
 use sk_base::{Op, Ty};
 use sk_names::Name;
@@ -59,13 +59,19 @@ pub fn counted(alloc: Global) -> Result<Expr, AllocError>
     Ok(Expr::Apply(name, Items::from_vec(arguments)))
 }
 
+/// `10 / a`
+pub fn inverse(alloc: Global) -> Result<Expr, AllocError>
+    ensures { IfOk result (λ made. made ≡ inverse) }
+{
+    binary(alloc, Op::Div, int(10), named(alloc, b"a")?)
+}
+
 /// `a > 0 && 10 / a > 2`
 pub fn guarded(alloc: Global) -> Result<Expr, AllocError>
     ensures { IfOk result (λ made. made ≡ guarded) }
 {
     let guard = binary(alloc, Op::Gt, named(alloc, b"a")?, int(0))?;
-    let quotient = binary(alloc, Op::Div, int(10), named(alloc, b"a")?)?;
-    let test = binary(alloc, Op::Gt, quotient, int(2))?;
+    let test = binary(alloc, Op::Gt, inverse(alloc)?, int(2))?;
     let left = Boxed::new(alloc, guard)?;
     let right = Boxed::new(alloc, test)?;
     Ok(Expr::Both(left, right))

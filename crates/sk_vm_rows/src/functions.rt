@@ -1,12 +1,12 @@
 //! Functions as trees.
 ghost use Rattle.std.specs.Prelude.{◌≡◌, [], ◌∷◌, ◌++◌, IfOk, OnOk};
 ghost use Rattle.sk_tree.specs.declared.tree.What.TheVariants as what;
-ghost use Rattle.sk_vm_rows.specs.Programs.{stated, int_param, function, grown, counting_loop};
+ghost use Rattle.sk_vm_rows.specs.Programs.{stated, int_param, instance, function, grown, counting_loop};
 
 use crate::expressions::{binary, int, named};
 use sk_base::{Op, Ty};
 use sk_names::Name;
-use sk_tree::{Expr, Function, Param, ParamKind, Statement, What};
+use sk_tree::{Expr, Function, Instance, Param, ParamKind, Skeleton, Statement, What};
 use sqlite_items::{Boxed, Items};
 use std::alloc::{AllocError, Global};
 
@@ -75,6 +75,26 @@ pub fn push_loop(alloc: Global, body: &mut Items<Statement>) -> Result<(), Alloc
     let mut inner = Items::new(alloc);
     inner.push(grown(alloc, b"s")?)?;
     body.push(stated(What::For(first, test, step, inner)))
+}
+
+/// Adds `auto name = Skeleton<1>(functions);`.
+pub fn push_instance(
+    alloc: Global,
+    name: &[u8],
+    skeleton: Skeleton,
+    functions: Items<Name>,
+    body: &mut Items<Statement>,
+) -> Result<(), AllocError>
+    ensures { OnOk result (body.new ≡ body.old ++ instance name.now skeleton functions ∷ []) }
+{
+    let name = Name::from_slice(alloc, name)?;
+    let numbers = Items::from_vec(vec![in alloc; 1]?);
+    body.push(stated(What::Instance(Instance {
+        name,
+        skeleton,
+        numbers,
+        functions,
+    })))
 }
 
 /// Adds a function with this name.

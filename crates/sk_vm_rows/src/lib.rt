@@ -3,6 +3,7 @@
 //!
 //! - `expressions`, `functions`, `program`: a program as a tree.
 //! - `calls`: its functions, compiled and run.
+//! - `sharing`: its functions and instances, run over one frame in turns.
 //! - `rows`: arguments, with the value or the trap that is wanted.
 #![tactic(auto)]
 
@@ -16,3 +17,5 @@ mod functions;
 mod program;
 #[cfg(test)]
 mod rows;
+#[cfg(test)]
+mod sharing;

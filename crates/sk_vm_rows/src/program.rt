@@ -1,11 +1,14 @@
 //! The program of the rows, as a tree.
 ghost use Rattle.std.specs.Prelude.{◌≡◌, [], ◌∷◌, ◌++◌, IfOk, OnOk};
-ghost use Rattle.sk_vm_rows.specs.Programs.{rows_program, counting, counting_body, dividing, calling, guarding, choosing, widening, widening_body, truncating, truncating_body, main};
+ghost use Rattle.sk_vm_rows.specs.Programs.{rows_program, counting, counting_body, dividing, calling, guarding, choosing, widening, widening_body, truncating, truncating_body, inverting, main, main_body};
 
-use crate::expressions::{binary, counted, distance, guarded, int, long, named, quotient};
-use crate::functions::{int_param, push_declaration, push_function, push_loop, push_return};
+use crate::expressions::{binary, counted, distance, guarded, int, inverse, long, named, quotient};
+use crate::functions::{
+    int_param, push_declaration, push_function, push_instance, push_loop, push_return,
+};
 use sk_base::{Op, Ty};
-use sk_tree::{Function, Program, Statement};
+use sk_names::Name;
+use sk_tree::{Function, Program, Skeleton, Statement};
 use sqlite_items::Items;
 use std::alloc::{AllocError, Global};
 
@@ -21,6 +24,7 @@ pub fn program(alloc: Global) -> Result<Program, AllocError>
     push_choosing(alloc, &mut functions)?;
     push_widening(alloc, &mut functions)?;
     push_truncating(alloc, &mut functions)?;
+    push_inverting(alloc, &mut functions)?;
     push_main(alloc, &mut functions)?;
     Ok(Program { functions })
 }
@@ -118,10 +122,33 @@ fn truncating_body(alloc: Global) -> Result<Items<Statement>, AllocError>
     Ok(body)
 }
 
+fn push_inverting(alloc: Global, functions: &mut Items<Function>) -> Result<(), AllocError>
+    ensures { OnOk result (functions.new ≡ functions.old ++ inverting ∷ []) }
+{
+    let params = int_param(alloc, b"a")?;
+    let mut body = Items::new(alloc);
+    push_return(inverse(alloc)?, &mut body)?;
+    push_function(alloc, Ty::Int, b"v", params, body, functions)
+}
+
 fn push_main(alloc: Global, functions: &mut Items<Function>) -> Result<(), AllocError>
     ensures { OnOk result (functions.new ≡ functions.old ++ main ∷ []) }
 {
-    let mut body = Items::new(alloc);
-    push_return(int(0), &mut body)?;
+    let body = main_body(alloc)?;
     push_function(alloc, Ty::Int, b"main", Items::new(alloc), body, functions)
+}
+
+fn main_body(alloc: Global) -> Result<Items<Statement>, AllocError>
+    ensures { IfOk result (λ body. body ≡ main_body) }
+{
+    let mut body = Items::new(alloc);
+    let calling = Name::from_slice(alloc, b"g")?;
+    let mapped = Items::from_vec(vec![in alloc; calling]?);
+    push_instance(alloc, b"m", Skeleton::Map, mapped, &mut body)?;
+    let choosing = Name::from_slice(alloc, b"c")?;
+    let dividing = Name::from_slice(alloc, b"d")?;
+    let reduced = Items::from_vec(vec![in alloc; choosing, dividing]?);
+    push_instance(alloc, b"r", Skeleton::MapReduce, reduced, &mut body)?;
+    push_return(int(0), &mut body)?;
+    Ok(body)
 }

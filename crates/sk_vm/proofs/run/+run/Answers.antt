@@ -10,6 +10,7 @@ use Rattle.sk_base.specs.declared.number.Trap.{Trap}
 use Rattle.sk_isa.specs.Coded.{Next, next_of, function_of}
 use Rattle.sk_isa.specs.Configurations.{returning, Goes as Going}
 use Rattle.sk_vm.proofs.Calls.{params_fit, passed, call_begins, call_returns}
+use Rattle.sk_vm.proofs.Chains.{slots-within}
 use Rattle.sk_vm.proofs.Middle.{CallReady, within, inside, needs, call_ready, call_leads}
 use Rattle.sk_vm.proofs.Running.{routine_at, goes_on, ends_with}
 use Rattle.sk_vm.proofs.Starts.{starts}
@@ -19,6 +20,9 @@ use Rattle.sk_vm.proofs.run.+run.Goals.{run_code-In-Calls, called-After-enter}
 -- room that is there throughout
 deep : {room now before : ℕ} → room ≤ before → now ≡ before → room ≤ now
 deep h is = omega arith
+
+wide : {room own count now before : ℕ} → room ≤ own + before → own ≡ count → now ≡ before → room ≤ count + now
+wide h counted is = omega arith
 
 pub run_code-loop-next-init : goal.run_code-loop-next-init
 run_code-loop-next-init t c =
@@ -59,7 +63,7 @@ run_code-returns-in-Traps t c =
 ready : (t : ℕ) (c : run_code-In-Calls t) → CallReady _ _ _ _ _ _ _ _ c.loop-next.invariant c.in-Calls.callee c.loop-next.rest
 ready t c =
     call_ready _ _ _ _ _ _ _ _ c.loop-next.invariant c.in-Calls.callee c.loop-next.rest c.instrs-instrs.ensures.entered.there (c.instr_at.ensures.found ∙ ap Some c.in-Calls.ensures.leads)
-    (deep c.requires.space.depth c.loop-next.auto.stack) (deep c.requires.space.slots c.loop-next.auto.rest)
+    (deep c.requires.space.depth c.loop-next.auto.stack) (wide c.requires.space.slots c.requires.begins.count c.loop-next.auto.rest)
 
 pub run_code-of-requires : goal.run_code-of-requires
 run_code-of-requires t c = (ready t (goal.at.run_code-of-requires t c).In-Calls).there
@@ -76,6 +80,13 @@ run_code-called-requires t c =
       subst (λ (e : Entered). 2 * e.function + 1 < t) is falls,
       (c.instr_at.ensures.address, subst (λ (e : Entered). MayCall e c.loop-next.stand c.step.new.stack c.loop-next.rest) is may),
     )
+
+pub called-split_at_mut-slots-requires : goal.called-split_at_mut-slots-requires
+called-split_at_mut-slots-requires t c =
+    let own = slots-within c.args.callee.now.object.functions c.args.callee.now.function in
+    let count = c.slot_count.ensures.count in
+    let room = c.requires.ready.slots in
+    omega arith
 
 pub called-enter-requires : goal.called-enter-requires
 called-enter-requires t c =

@@ -5,12 +5,20 @@ use Rattle.sk_isa.specs.Objects.{signature_at}
 use Rattle.sk_meaning.specs.Evaluation.{value_only}
 use Rattle.sk_vm.specs.Arguments.{CanPass, Passes}
 use Rattle.sk_vm.proofs.Calls.{params_fit}
+use Rattle.sk_vm.proofs.Chains.{slots-within}
 use Rattle.sk_vm.proofs.Given.{scalars_only, value-in_range, passable, given_suit, begins_given, value_given}
 use Rattle.sk_vm.specs.Frames.{reading_by}
 use Rattle.sk_vm.specs.Rooms.{given_to}
 use Rattle.sk_vm.proofs.start.start.Given.{Over}
 use Rattle.sk_vm.proofs.start.start.Goals as goal
 use Rattle.sk_vm.proofs.start.start.Goals.{After-read}
+
+pub split_at_mut-own-requires : goal.split_at_mut-own-requires
+split_at_mut-own-requires g c =
+    let own = slots-within c.args.entry.now.object.functions c.args.entry.now.function in
+    let count = c.slot_count.ensures.count in
+    let room = c.requires.space.slots in
+    omega arith
 
 pub read-requires-clause-within : goal.read-requires-clause-within
 read-requires-clause-within g c =

@@ -6,11 +6,19 @@ use Rattle.sk_isa.specs.Objects.{signature_at}
 use Rattle.sk_isa_laws.proofs.TypedLists.{suited-length}
 use Rattle.sk_meaning.specs.Evaluation.{Value, turn_limit, value_only}
 use Rattle.sk_vm.proofs.Calls.{params_fit, begins-entered}
+use Rattle.sk_vm.proofs.Chains.{slots-within}
 use Rattle.sk_vm.proofs.Given.{value-in_range}
 use Rattle.sk_vm.specs.Rooms.{Begins, given_to}
 use Rattle.sk_base.specs.declared.number.Trap.{Trap}
 use Rattle.sk_vm.proofs.start.start_with.Goals as goal
 use Rattle.sk_vm.proofs.start.start_with.Goals.{After-enter}
+
+pub split_at_mut-own-requires : goal.split_at_mut-own-requires
+split_at_mut-own-requires c =
+    let own = slots-within c.args.entry.now.object.functions c.args.entry.now.function in
+    let count = c.slot_count.ensures.count in
+    let room = c.requires.space.slots in
+    omega arith
 
 -- the arguments as they were stored
 entered : {slots rest : List ℤ} {a b a_stored b_stored : ℤ} → slots ≡ a_stored ∷ b_stored ∷ rest → a_stored ≡ a → b_stored ≡ b → slots ≡ a ∷ b ∷ rest

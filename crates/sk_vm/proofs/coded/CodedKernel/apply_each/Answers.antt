@@ -1,19 +1,10 @@
-use Rattle.std.proofs.Common.{◌≡◌, ◌∙◌, ap, length, subst}
-use Rattle.sk_isa.specs.Objects.{function_at}
-use Rattle.sk_kernel.specs.Instances.{function_meaning, reading_of}
-use Rattle.sk_kernel.specs.Kernels.{AgreeRun, AreValues, Meaning, given_by, run_value}
-use Rattle.sk_tree.specs.InstanceSettings.{default_settings}
-use Rattle.sk_vm.specs.Instantiated.{Instantiated}
-use Rattle.sk_vm.proofs.Lawful.{frame_meaning}
+use Rattle.std.proofs.Common.{length, subst}
+use Rattle.sk_kernel.specs.Kernels.{AgreeRun, AreValues, given_by, run_value}
+use Rattle.sk_vm.specs.Instantiated.{Instantiated, meaning_of}
 use Rattle.sk_vm.proofs.coded.CodedKernel.apply_each.Goals as goal
 
 pub returns-clause-values : goal.returns-clause-values
 returns-clause-values g c cells agree =
-    let inside = c.self.inside in
-    let same : function_meaning inside.object.now inside.first.function inside.first.reading
-    ≡ function_meaning c.args.self.now.object (function_at c.args.self.now.plan 0) (reading_of c.args.self.now.plan default_settings) =
-    frame_meaning inside.object.now inside.plan.now inside.first inside.operator c.self.invariant
-    ∙ ap (λ (v : Instantiated). function_meaning v.object (function_at v.plan 0) (reading_of v.plan default_settings)) c.self.view_is in
-    subst (λ (m : Meaning). AgreeRun m (g.D.Data.means c.args.source.now) c.args.at.place c.args.at.pair (length c.args.out.now) cells
-    → AreValues (run_value m (given_by (g.D.Data.means c.args.source.now) cells) c.args.at.place c.args.at.pair) c.run_each.new.out c.run_each.result) same
-    (c.run_each.ensures.values cells) agree
+    subst (λ (i : Instantiated). AgreeRun (meaning_of i) (g.D.Data.means c.args.source.now) c.args.at.place c.args.at.pair (length c.args.out.now) cells
+    → AreValues (run_value (meaning_of i) (given_by (g.D.Data.means c.args.source.now) cells) c.args.at.place c.args.at.pair) c.apply_each.new.out c.apply_each.result) c.self.view_is
+    (c.apply_each.ensures.values cells) agree

@@ -1,4 +1,4 @@
-use Rattle.sk_vm_rows.proofs.Taking.{counting-takes, calling-takes, guarding-takes, choosing-takes, widening-takes, truncating-takes}
+use Rattle.sk_vm_rows.proofs.Taking.{counting-takes, calling-takes, guarding-takes, choosing-takes, widening-takes, truncating-takes, inverting-takes}
 use Rattle.sk_vm_rows.proofs.calls.Called.number.Goals as goal
 
 pub returns-in-Counting : goal.returns-in-Counting
@@ -18,3 +18,6 @@ returns-in-Widening c = widening-takes
 
 pub returns-in-Truncating : goal.returns-in-Truncating
 returns-in-Truncating c = truncating-takes
+
+pub returns-in-Inverting : goal.returns-in-Inverting
+returns-in-Inverting c = inverting-takes

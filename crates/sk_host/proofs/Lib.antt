@@ -1,0 +1,15 @@
+pub mod Arms
+pub mod Calling
+pub mod Computing
+pub mod Doing
+pub mod Finding
+pub mod Given
+pub mod Going
+pub mod Grown
+pub mod Kept
+pub mod Mapped
+pub mod Operands
+pub mod Reached
+pub mod Shaped
+pub mod Stores
+pub mod Turning

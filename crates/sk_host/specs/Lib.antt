@@ -1,0 +1,12 @@
+pub mod MapCalls
+pub mod Maps
+pub mod Needs
+pub mod Outcomes
+pub mod Passed
+pub mod PassedLaws
+pub mod Points
+pub mod Prints
+pub mod Rooms
+pub mod Stores
+pub mod Turns
+pub mod Underway

@@ -2,6 +2,8 @@ pub mod StepKinds
 pub mod RetreatLemmas
 pub mod EvictLemmas
 pub mod WayLemmas
+pub mod LeaveSums
 pub mod RoomLemmas
 pub mod TakenLemmas
 pub mod LegalWrites
+pub mod LaterLemmas

@@ -221,7 +221,7 @@ reaches_on (Some o) (Some p) lo hi end same less is =
     let h : p.hi ≡ o.hi = grind arith in
     (omega (arith, l, is.0), omega (arith, h, is.1, less))
 
-spaces_apart : (o p : Option Held) (home : Home) → IsFar o → IsSome o → home_in p ≡ Some home → home.space ≡ 0 → o ≡ p → ⊥
+pub spaces_apart : (o p : Option Held) (home : Home) → IsFar o → IsSome o → home_in p ≡ Some home → home.space ≡ 0 → o ≡ p → ⊥
 spaces_apart None p home far there is zero same = cc
 spaces_apart (Some o) p home far there is zero same =
     let one : o.space ≡ home.space = grind arith in

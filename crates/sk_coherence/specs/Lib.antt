@@ -1,3 +1,4 @@
 pub mod Evicts
 pub mod Room
 pub mod Named
+pub mod Later

@@ -5,7 +5,7 @@ ghost use Rattle.sk_spaces.specs.Spaces.{Stays, OnlyNotes, Changes, block_at};
 ghost use Rattle.sk_copy_states.specs.Copies.{ReachesIn, OwnsAlone, store_in};
 ghost use Rattle.sk_copy_states.specs.Stores.{UsesWrite, changes_in, opened};
 ghost use Rattle.sk_coherence_laws.specs.Directory.{DirectoryView, IsSound, copy_at, store_at, cells_of_copy};
-ghost use Rattle.sk_coherence_laws.specs.Writes.{WritesCopy};
+ghost use Rattle.sk_coherence_laws.specs.Writes.{WritesCopy, SameRoom};
 ghost use Rattle.sk_coherence_laws.specs.Traced.{IsLike, TracesWrite, TracesStep, Opens};
 ghost use Rattle.sk_spaces.specs.declared.step.Step.{Step};
 ghost use Rattle.sk_coherence.specs.Evicts.{IsOnHost};
@@ -17,8 +17,10 @@ mod add;
 mod blocks;
 mod evict;
 mod fill;
+mod later;
 mod moves;
 mod rebind;
+mod retire;
 mod room;
 
 use sk_base::{Cell, Range, Shape, Ty};
@@ -242,6 +244,7 @@ impl<J: Journal> Directory<J> {
         requires room { IfSome (copy_at self.old copy.id) (λ held. 0 < changes_in (store_at self.old held.store)) }
         requires owed { 0 < self.old.owed }
         ensures written { WritesCopy self.old self.new copy.id range.lo range.hi cells.now }
+        ensures same { SameRoom self.old self.new }
         ensures stores { IfSome (copy_at self.old copy.id) (λ held. UsesWrite self.old.stores self.new.stores held.store) }
         ensures used { IfSome (copy_at self.old copy.id) (λ held.
             self.new.owed ≡ self.old.owed - min (changes_in (store_at self.old held.store)) 2) }

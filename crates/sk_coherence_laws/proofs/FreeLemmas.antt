@@ -16,7 +16,9 @@ use Rattle.sk_copy_states.specs.Stores.{StoreView, copies_in, changes_in, len_in
 use Rattle.sk_coherence_laws.specs.Directory.{DirectoryView, copy_at, store_at, cells_of_copy, block_home, IsSound, AreCoherent, LiesInside}
 use Rattle.sk_coherence_laws.specs.Traced.{IsLike, IsLineOf, live_home, TracesStep}
 use Rattle.sk_coherence_laws.specs.Frees.{FreesCopy}
+use Rattle.sk_coherence_laws.specs.Retires.{IsPlaced}
 use Rattle.sk_coherence_laws.proofs.InsideLemmas.{lens_on}
+use Rattle.sk_coherence_laws.proofs.PlacedLemmas.{placed-like, like-placed}
 use Rattle.sk_coherence_laws.proofs.LegalMoves.{not_owner_mark}
 use Rattle.sk_coherence_laws.proofs.OpenLemmas.{some_of, eq_yes, eq_no, replaced_here, replaced_else}
 use Rattle.sk_coherence_laws.proofs.TracedWrite.{live_of}
@@ -28,7 +30,7 @@ without_low xs at k inside below = grind (arith, common_steps)
 without_high : (xs : List ℕ) (at k : ℕ) → at < length xs → at ≤ k → slice_index (take at xs ++ drop (at + 1) xs) k ≡ slice_index xs (k + 1)
 without_high xs at k inside above = grind (arith, common_steps)
 
-length_without : (xs : List ℕ) (at : ℕ) → at < length xs → length (take at xs ++ drop (at + 1) xs) + 1 ≡ length xs
+pub length_without : (xs : List ℕ) (at : ℕ) → at < length xs → length (take at xs ++ drop (at + 1) xs) + 1 ≡ length xs
 length_without xs at inside = grind (arith, common_steps)
 
 gone_there : (o : Option Held) → o ≡ None → IsSome o → ⊥
@@ -234,7 +236,7 @@ module _ (d n : DirectoryView) (id s : ℕ) (st now : StoreView) (sound : IsSoun
     coherent = coherent_now;
   }
 
-  stores_like : (m : Machine) → IsLike m d → (t : ℕ) → IfSome (store_at n t) (λ store. IsSomeAnd (m.stores t) (IsLineOf store))
+  stores_like : (m : Machine) → IsPlaced m d → (t : ℕ) → IfSome (store_at n t) (λ store. IsSomeAnd (m.stores t) (IsLineOf store))
   stores_like m l t = ⊎_elim
       (λ (e : t ≡ s). subst (λ (x : ℕ). IfSome (store_at n x) (λ store. IsSomeAnd (m.stores x) (IsLineOf store))) (sym e)
       (subst (λ (o : Option StoreView). IfSome o (λ store. IsSomeAnd (m.stores s) (IsLineOf store))) (sym f.stores.here)
@@ -243,7 +245,7 @@ module _ (d n : DirectoryView) (id s : ℕ) (st now : StoreView) (sound : IsSoun
       (λ (ne : t ≢ s). subst (λ (o : Option StoreView). IfSome o (λ store. IsSomeAnd (m.stores t) (IsLineOf store))) (sym (f.stores.others t ne)) (l.stores t))
       (cases_eq t s)
 
-  used_now : (m : Machine) → IsLike m d → (home : Home) → home_in (copy_at d id) ≡ Some home → (p : ℕ) → 0 < p
+  used_now : (m : Machine) → IsPlaced m d → (home : Home) → home_in (copy_at d id) ≡ Some home → (p : ℕ) → 0 < p
       → (if p == home.space then m.used p - (home.hi - home.lo) else m.used p) ≡ used_of n.spaces.memories p
   used_now m l home is p some = let u = f.memories.used p in let t = taken_home (cells_of_copy d id) home p (sound.tied id ∙ is) in ⊎_elim
       (λ (e : p ≡ home.space). ap (λ (b : Bool). if b then m.used p - (home.hi - home.lo) else m.used p) (eq_yes p home.space e)
@@ -252,14 +254,15 @@ module _ (d n : DirectoryView) (id s : ℕ) (st now : StoreView) (sound : IsSoun
       ∙ omega (arith, u, t, l.used p some, ap (λ (b : Bool). if b then home.hi - home.lo else 0) (eq_no home.space p (λ e. ne (sym e)))))
       (cases_eq p home.space)
 
-  copies_like : (m : Machine) → IsLike m d → (q : ℕ) → live_home (replaced m.copies id freed q) ≡ home_in (copy_at n q)
+  copies_like : (m : Machine) → IsPlaced m d → (q : ℕ) → live_home (replaced m.copies id freed q) ≡ home_in (copy_at n q)
   copies_like m l q = ⊎_elim
       (λ (e : q ≡ id). ap live_home (replaced_here m.copies id freed q e) ∙ sym (ap (λ x. home_in (copy_at n x)) e ∙ ap home_in f.copies.here))
       (λ (ne : q ≢ id). ap live_home (replaced_else m.copies id freed q ne) ∙ l.copies q ∙ ap home_in (sym (f.copies.others q ne)))
       (cases_eq q id)
 
-  like_at : (m : Machine) → IsLike m d → (home : Home) → home_in (copy_at d id) ≡ Some home → IsLike (frees_at (live home) id m) n
-  like_at m l home is = record {
+  -- the copies and stores that are left lie as before
+  pub placed-free : (m : Machine) → IsPlaced m d → (home : Home) → home_in (copy_at d id) ≡ Some home → IsPlaced (frees_at (live home) id m) n
+  placed-free m l home is = record {
     memory = subst (λ (r : ℕ). IsSomeAnd m.memory (λ line. (line.ranks ≡ r) × (line.capacity ≡ n.spaces.memories.capacity))) (sym f.memories.ranks)
         (subst (λ (k : ℕ). IsSomeAnd m.memory (λ line. (line.ranks ≡ d.spaces.memories.ranks) × (line.capacity ≡ k))) (sym f.memories.capacity) l.memory);
     stores = stores_like m l;
@@ -267,12 +270,21 @@ module _ (d n : DirectoryView) (id s : ℕ) (st now : StoreView) (sound : IsSoun
     copies = copies_like m l;
     new_copies = λ q above. let below : d.spaces.memories.next ≤ q = omega (arith, above, f.memories.next) in
         replaced_else m.copies id freed q (id_below q below) ∙ l.new_copies q below;
-    marks = λ q i some. let ne = not_gone q some in
-        l.marks q i (subst (λ (o : Option Held). IsSome o) (f.copies.others q ne) some) ∙ ap (λ o. mark_of (state_in o i)) (sym (f.copies.others q ne));
-    cells = λ q i readable. let ne = readable_stays q i readable in
-        l.cells q i (λ e. readable (ap (λ o. state_in o i) (f.copies.others q ne) ∙ e)) ∙ ap (λ o. cell_in o i) (sym (f.memories.blocks.others q ne));
     used = used_now m l home is;
   }
+
+  pub copy_left : (q : ℕ) → IsSome (copy_at n q) → copy_at n q ≡ copy_at d q
+  copy_left q some = f.copies.others q (not_gone q some)
+
+  pub cells_left : (q : ℕ) → IsSome (copy_at n q) → cells_of_copy n q ≡ cells_of_copy d q
+  cells_left q some = f.memories.blocks.others q (not_gone q some)
+
+  like_at : (m : Machine) → IsLike m d → (home : Home) → home_in (copy_at d id) ≡ Some home → IsLike (frees_at (live home) id m) n
+  like_at m l home is = like-placed (frees_at (live home) id m) n (placed-free m (placed-like m d l) home is)
+      (λ q i some. let ne = not_gone q some in
+      l.marks q i (subst (λ (o : Option Held). IsSome o) (f.copies.others q ne) some) ∙ ap (λ o. mark_of (state_in o i)) (sym (f.copies.others q ne)))
+      (λ q i readable. let ne = readable_stays q i readable in
+      l.cells q i (λ e. readable (ap (λ o. state_in o i) (f.copies.others q ne) ∙ e)) ∙ ap (λ o. cell_in o i) (sym (f.memories.blocks.others q ne)))
 
   pub traced-free : ((i : ℕ) → state_in (copy_at d id) i ≢ Owner) → TracesStep d n (Free id)
   traced-free none m l =

@@ -25,3 +25,9 @@ pub mod PlaceLemmas
 pub mod AcquireLemmas
 pub mod OweLemmas
 pub mod RebindLemmas
+pub mod PlacedLemmas
+pub mod StaleLemmas
+pub mod LeadsLemmas
+pub mod LeaveLemmas
+pub mod RetireLemmas
+pub mod CloseLemmas

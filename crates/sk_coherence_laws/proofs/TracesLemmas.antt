@@ -16,34 +16,34 @@ use Rattle.sk_coherence_laws.specs.Traced.{IsLike, TracesStep, live_home}
 use Rattle.sk_coherence_laws.specs.Moves.{IsStaleAt}
 use Rattle.sk_coherence_laws.specs.Steps.{Traces, AreDone, goes_far, lie_apart, counted, IsFill}
 
-done-append : (P : Machine → Step → Type 0) (m : Machine) (xs ys : List Step) → AreDone P m xs → AreDone P (after_all m xs) ys → AreDone P m (xs ++ ys)
+pub done-append : (P : Machine → Step → Type 0) (m : Machine) (xs ys : List Step) → AreDone P m xs → AreDone P (after_all m xs) ys → AreDone P m (xs ++ ys)
 done-append P m [] ys x y = y
 done-append P m (step ∷ xs) ys x y = (x.0, x.1, done-append P (after m step) xs ys x.2 y)
 
-after_all-append : (m : Machine) (xs ys : List Step) → after_all m (xs ++ ys) ≡ after_all (after_all m xs) ys
+pub after_all-append : (m : Machine) (xs ys : List Step) → after_all m (xs ++ ys) ≡ after_all (after_all m xs) ys
 after_all-append m [] ys = refl
 after_all-append m (step ∷ xs) ys = after_all-append (after m step) xs ys
 
-counted-append : (m : Machine) (xs ys : List Step) (totals : Totals) → counted m (xs ++ ys) totals ≡ counted (after_all m xs) ys (counted m xs totals)
+pub counted-append : (m : Machine) (xs ys : List Step) (totals : Totals) → counted m (xs ++ ys) totals ≡ counted (after_all m xs) ys (counted m xs totals)
 counted-append m [] ys totals = refl
 counted-append m (step ∷ xs) ys totals = counted-append (after m step) xs ys (with_step step (goes_far m step) totals)
 
 assoc : (xs ys zs : List Step) → (xs ++ ys) ++ zs ≡ xs ++ (ys ++ zs)
 assoc xs ys zs = append_assoc xs ys zs
 
-told-append : (o : Option (List Step)) (xs ys : List Step) → option_map (λ done. done ++ ys) (option_map (λ done. done ++ xs) o) ≡ option_map (λ done. done ++ (xs ++ ys)) o
+pub told-append : (o : Option (List Step)) (xs ys : List Step) → option_map (λ done. done ++ ys) (option_map (λ done. done ++ xs) o) ≡ option_map (λ done. done ++ (xs ++ ys)) o
 told-append None xs ys = refl
 told-append (Some done) xs ys = ap Some (assoc done xs ys)
 
-told-none : (o : Option (List Step)) → o ≡ option_map (λ done. done ++ []) o
+pub told-none : (o : Option (List Step)) → o ≡ option_map (λ done. done ++ []) o
 told-none None = refl
 told-none (Some done) = ap Some (grind (arith, common_steps))
 
-told-one : (o : Option (List Step)) (step : Step) → with_last o step ≡ option_map (λ done. done ++ step ∷ []) o
+pub told-one : (o : Option (List Step)) (step : Step) → with_last o step ≡ option_map (λ done. done ++ step ∷ []) o
 told-one None step = refl
 told-one (Some done) step = refl
 
-done-map : (P Q : Machine → Step → Type 0) → ((m : Machine) (step : Step) → P m step → Q m step) → (m : Machine) (xs : List Step) → AreDone P m xs → AreDone Q m xs
+pub done-map : (P Q : Machine → Step → Type 0) → ((m : Machine) (step : Step) → P m step → Q m step) → (m : Machine) (xs : List Step) → AreDone P m xs → AreDone Q m xs
 done-map P Q more m [] x = tt
 done-map P Q more m (step ∷ xs) x = (x.0, more m step x.1, done-map P Q more (after m step) xs x.2)
 

@@ -1,5 +1,5 @@
 -- A copy that is acquired.
-use Rattle.std.specs.Prelude.{◌≡◌, ◌≢◌, ℕ, ◌+◌, Some, IfSome, ⊤}
+use Rattle.std.specs.Prelude.{◌≡◌, ◌≢◌, ℕ, ◌+◌, Some, IfSome, IsSome, ⊤}
 use Rattle.sk_spaces.specs.declared.faults.SpaceFault.{SpaceFault}
 use Rattle.sk_spaces.specs.declared.faults.SpaceFault.TheVariants.{NoRoom, Memory}
 use Rattle.sk_spaces.specs.Spaces.{IsSpaceFault}
@@ -17,6 +17,7 @@ pub record PinsOne (old new : DirectoryView) (copy : ℕ) : Type 0 where
 pub record Acquires (old new : DirectoryView) (copy : ℕ) : Type 0 where
   pub before : DirectoryView
   pub serves : Serves old before
+  pub there : IsSome (copy_at before copy)
   pub pins : PinsOne before new copy
 
 -- why no copy is made: there is none with this block, and the block would be too much in its space; or memory is wanting

@@ -11,3 +11,4 @@ pub mod Serves
 pub mod Acquires
 pub mod Owes
 pub mod Rebinds
+pub mod Retires

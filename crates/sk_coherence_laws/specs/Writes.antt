@@ -1,6 +1,6 @@
 -- A write of a copy.
 use Rattle.std.specs.Prelude.{◌≡◌, ◌≢◌, ℕ, ℤ, ◌-◌, ◌<◌, ◌≤◌, List, slice_index_or, None, IfSome, pos}
-use Rattle.sk_spaces.specs.Spaces.{NotesStep}
+use Rattle.sk_spaces.specs.Spaces.{NotesStep, used_at}
 use Rattle.sk_copy_states.specs.Copies.{cell_in, OwnsAlone}
 use Rattle.sk_coherence_laws.specs.Directory.{DirectoryView, copy_at, cells_of_copy}
 
@@ -18,3 +18,10 @@ pub record WritesCopy (old new : DirectoryView) (copy lo hi : ℕ) (cells : List
   pub others : (q : ℕ) → q ≢ copy → cells_of_copy new q ≡ cells_of_copy old q
   pub noted : IfSome old.named (λ step. NotesStep old.spaces new.spaces step)
   pub named : new.named ≡ None
+
+-- the ranks and what is taken of their spaces are as before, and no copy was made
+pub record SameRoom (old new : DirectoryView) : Type 0 where
+  pub next_copy : new.spaces.memories.next ≡ old.spaces.memories.next
+  pub ranks : new.spaces.memories.ranks ≡ old.spaces.memories.ranks
+  pub capacity : new.spaces.memories.capacity ≡ old.spaces.memories.capacity
+  pub used : (space : ℕ) → used_at new.spaces space ≡ used_at old.spaces space

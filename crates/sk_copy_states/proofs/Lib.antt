@@ -1,3 +1,4 @@
 pub mod ListedLemmas
 pub mod RoomLemmas
 pub mod LooseLemmas
+pub mod InBlock

@@ -1,5 +1,5 @@
 -- Room that is made in one copy after another.
-use Rattle.std.proofs.Common.{◌≡◌, ◌≢◌, ℕ, ◌+◌, ◌<◌, ◌≤◌, List, slice_index, Option, Some, None, IfSome, arith, ⊎_elim, sym, subst, ◌∙◌, ap}
+use Rattle.std.proofs.Common.{◌≡◌, ◌≢◌, ℕ, ◌+◌, ◌<◌, List, slice_index, Option, Some, None, arith, ⊎_elim, sym, subst, ◌∙◌, ap}
 use Rattle.std.proofs.lemmas.Bool.{cases_eq}
 use Rattle.sk_copy_states.specs.declared.held.Held.{Held}
 use Rattle.sk_copy_states.specs.Copies.{KeepsStates, HasRoomIn, pins_in}

@@ -1,5 +1,5 @@
 -- Copies by number: what a look-up of a number says.
-use Rattle.std.specs.Prelude.{◌≡◌, ◌≢◌, ℕ, ℤ, ◌+◌, ◌≤◌, ◌<◌, List, length, slice_index, Option, Some, None, IfSome, IsSome, pos}
+use Rattle.std.specs.Prelude.{◌≡◌, ◌≢◌, ℕ, ℤ, ◌+◌, ◌≤◌, ◌<◌, List, length, slice_index, Option, Some, None, IfSome, pos}
 use Rattle.std.specs.Ordering.{nat_cmp}
 use Rattle.std.specs.BTreeMap.{is_at}
 use Rattle.std.specs.Map.{lookup}
@@ -95,3 +95,8 @@ pub record HandsOver (old new : ℕ → Option Held) (from to lo hi : ℕ) : Typ
 -- a copy has room for so many changes, if it is there
 abbrev pub HasRoomIn : ℕ → Option Held → Type 0
 HasRoomIn n copy = IfSome copy (λ held. n ≤ held.states.reserved)
+
+-- a copy of the store lies so, with all of its block among the indices lo ≤ i < hi
+abbrev pub LiesAmong : ℕ → ℕ → ℕ → Option Home → Type 0
+LiesAmong store lo hi None = ⊥
+LiesAmong store lo hi (Some home) = (home.store ≡ store) × (lo ≤ home.lo) × (home.hi ≤ hi)

@@ -1,8 +1,8 @@
 -- What a copy says of the indices of its store.
-use Rattle.std.specs.Prelude.{◌≡◌, ℕ, ◌+◌, ◌-◌, ◌<◌, ◌≤◌, length, nat_lt, if◌then◌else◌}
+use Rattle.std.specs.Prelude.{◌≡◌, ℕ, ◌+◌, ◌-◌, ◌≤◌, length, nat_lt, if◌then◌else◌}
 use Rattle.sk_ranges.specs.declared.state.State.{State}
 use Rattle.sk_ranges.specs.declared.state.State.TheVariants.{Stale, Valid, Owner}
-use Rattle.sk_ranges.specs.States.{state_at, SetsIn}
+use Rattle.sk_ranges.specs.States.{state_at}
 use Rattle.sk_spaces.specs.Machine.{Home, Mark, stale, valid, owner}
 use Rattle.sk_copy_states.specs.declared.held.Held.{Held}
 

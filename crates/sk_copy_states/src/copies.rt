@@ -2,7 +2,7 @@
 ghost use Rattle.std.specs.Prelude.{◌≡◌, ◌≢◌, ℕ, ◌+◌, ◌-◌, ◌<◌, ◌≤◌, ◌^◌, length, slice_index, IfSome, IfNone, IsSome, IsTrue, ◌↔◌, Some, None, OnOk, OnErr};
 ghost use Rattle.sk_copy_states.specs.Held.{IsFit, HasRoom};
 ghost use Rattle.sk_copy_states.specs.Copies.{HasRoomIn};
-ghost use Rattle.sk_copy_states.specs.Copies.{held_in, home_in, pins_in, SetsAt, OwnsAlone, StalesAll, HandsOver, ReachesIn, IsReady, store_in, ChangesCopy, AreDistinct, KeepsStates};
+ghost use Rattle.sk_copy_states.specs.Copies.{held_in, home_in, pins_in, SetsAt, OwnsAlone, StalesAll, HandsOver, ReachesIn, IsReady, store_in, ChangesCopy, AreDistinct, KeepsStates, LiesAmong};
 
 use crate::held::{Held, set_state};
 use sk_base::Range;
@@ -226,6 +226,35 @@ pub fn find_block(
 {
     'ids: for at in 0..ids.len() {
         if lies(copies, ids[at], store, space, block) {
+            return Some(ids[at]);
+        }
+    }
+    None
+}
+
+/// Whether a copy is one of a store, with all of its block in a range.
+fn lies_among(copies: &BTreeMap<u64, Held>, id: u64, store: u64, range: Range) -> bool
+    ensures { IsTrue result ↔ LiesAmong store range.lo range.hi (home_in (held_in copies.now.entries id)) }
+{
+    match copies.get(&id) {
+        Some(held) => held.store == store && range.lo <= held.lo && held.hi <= range.hi,
+        None => false,
+    }
+}
+
+/// The first of the listed copies of a store that has all of its block in a range, if there is one.
+pub fn find_among(
+    copies: &BTreeMap<u64, Held>,
+    ids: &[u64],
+    store: u64,
+    range: Range,
+) -> Option<u64>
+    ensures found { IfSome result (λ q. LiesAmong store range.lo range.hi (home_in (held_in copies.now.entries q))) }
+    ensures none { IfNone result ((k : ℕ) → k < length ids.now →
+        LiesAmong store range.lo range.hi (home_in (held_in copies.now.entries (slice_index ids.now k))) → ⊥) }
+{
+    'ids: for at in 0..ids.len() {
+        if lies_among(copies, ids[at], store, range) {
             return Some(ids[at]);
         }
     }

@@ -4,6 +4,7 @@
 //! - `held`: the states of one copy.
 //! - `copies`: copies by number.
 //! - `store`, `stores`: one store, and stores by number.
+//! - `owners`: whether copies own something.
 //! - `sources`: from which copy cells come.
 //! - `room`: what takes room in a space, and what may give way.
 //! - `entries`: a copy in the lists of both.
@@ -12,6 +13,7 @@
 pub mod copies;
 pub mod entries;
 pub mod held;
+pub mod owners;
 pub mod room;
 pub mod sources;
 pub mod store;

@@ -1,5 +1,5 @@
 //! Stores by number.
-ghost use Rattle.std.specs.Prelude.{◌≡◌, ℕ, ◌+◌, ◌^◌, ◌<◌, length, slice_index, None, Some, IfSome, IsSome, OnOk, OnErr};
+ghost use Rattle.std.specs.Prelude.{◌≡◌, ◌≢◌, ℕ, ◌+◌, ◌^◌, ◌<◌, length, slice_index, None, Some, IfSome, IsSome, OnOk, OnErr};
 ghost use Rattle.sk_copy_states.specs.Stores.{UsesWrite, PutsStore, StoreView, store_of, copies_in, with_copy};
 ghost use Rattle.sk_copy_states.specs.Stores.{LosesCopy};
 ghost use Rattle.sk_copy_states.specs.Stores.{OwesOne};
@@ -81,4 +81,12 @@ pub fn forget(stores: &mut BTreeMap<u64, Store>, id: u64, copy: u64)
     if let Some(store) = stores.get_mut(&id) {
         store.forget(copy);
     }
+}
+
+/// Takes a store away.
+pub fn remove(stores: &mut BTreeMap<u64, Store>, id: u64)
+    ensures here { store_of stores.new.entries id ≡ None }
+    ensures others { (s : ℕ) → s ≢ id → store_of stores.new.entries s ≡ store_of stores.old.entries s }
+{
+    stores.remove(&id);
 }

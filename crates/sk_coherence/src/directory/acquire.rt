@@ -1,6 +1,6 @@
 //! Copies that are acquired.
 ghost use Rattle.std.specs.Prelude.{◌≡◌, ◌≢◌, ℕ, ◌+◌, ◌-◌, ◌<◌, ◌≤◌, Some, None, IfSome, IsSome, IfOk, IfErr, OnOk, OnErr};
-ghost use Rattle.sk_copy_states.specs.Copies.{home_in, store_in, state_in};
+ghost use Rattle.sk_copy_states.specs.Copies.{home_in, store_in, state_in, pins_in};
 ghost use Rattle.sk_coherence_laws.specs.Directory.{copy_at, store_at};
 ghost use Rattle.sk_copy_states.specs.Stores.{IsBlockOf};
 ghost use Rattle.sk_copy_states.specs.Sources.{MayRead};
@@ -27,7 +27,7 @@ use std::alloc::Global;
 
 impl<J: Journal> Directory<J> {
     /// Adds one pin to a copy.
-    fn pin(&mut self, copy: CopyId) -> Result<(), Memory>
+    pub(crate) fn pin(&mut self, copy: CopyId) -> Result<(), Memory>
         requires there { IsSome (copy_at self.old copy.id) }
         ensures ok { OnOk result (PinsOne self.old self.new copy.id) }
         ensures err { OnErr result ((q : ℕ) → copy_at self.new q ≡ copy_at self.old q) }
@@ -55,6 +55,7 @@ impl<J: Journal> Directory<J> {
         ensures home { IfOk result (λ copy. home_in (copy_at self.new copy.id)
             ≡ Some (record { store = place.store; space = place.space; lo = place.block.lo; hi = place.block.hi })) }
         ensures readable { IfOk result (λ copy. MayRead (copy_at self.new copy.id) need.lo need.hi) }
+        ensures pinned { IfOk result (λ copy. 0 < pins_in (copy_at self.new copy.id)) }
         ensures fault { IfErr result (IsRoomFault self.old place.store place.space place.block.lo place.block.hi) }
         ensures err { OnErr result (Serves self.old self.new) }
         ensures traced { Traces (IsServing place.store place.space place.block.lo place.block.hi) self.old self.new }
@@ -87,6 +88,7 @@ impl<J: Journal> Directory<J> {
         ensures home { IfOk result (λ copy. home_in (copy_at self.new copy.id)
             ≡ Some (record { store = store.id; space = space; lo = block.lo; hi = block.hi })) }
         ensures readable { IfOk result (λ copy. MayRead (copy_at self.new copy.id) need.lo need.hi) }
+        ensures pinned { IfOk result (λ copy. 0 < pins_in (copy_at self.new copy.id)) }
         ensures fault { IfErr result (IsAcquireFault self.old store.id space block.lo block.hi) }
         ensures early { IfErr result (IsEarly self.old self.new) }
         ensures short { OnOk result (IsShort self.old store.id space block.lo block.hi → ⊥) }

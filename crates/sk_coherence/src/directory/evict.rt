@@ -24,13 +24,12 @@ use sk_spaces::{Block, Journal, Memory, Spaces, Step};
 use std::alloc::Global;
 
 impl<J: Journal> Directory<J> {
-    /// Takes away a copy that owns nothing. The journal has room for the step.
-    pub(crate) fn free(&mut self, alloc: Global, copy: CopyId)
+    /// Takes away a copy, with what it owns. The journal has room for the step.
+    pub(crate) fn let_go(&mut self, alloc: Global, copy: CopyId)
         requires ready { self.old.owed + 1 ≤ self.old.ready }
         requires there { IsSome (copy_at self.old copy.id) }
-        requires owns_none { (i : ℕ) → state_in (copy_at self.old copy.id) i ≢ Owner }
         ensures freed { FreesSome self.old self.new copy.id }
-        ensures traced { TracesStep self.old self.new (Step.Free copy.id) }
+        ensures ready { self.new.ready + 1 ≡ self.old.ready }
     {
         let Some(held) = self.copies.get(&copy.id) else {
             return;
@@ -42,8 +41,20 @@ impl<J: Journal> Directory<J> {
         free_ready(&mut self.spaces, alloc, copy);
     }
 
+    /// Takes away a copy that owns nothing. The journal has room for the step.
+    pub(crate) fn free(&mut self, alloc: Global, copy: CopyId)
+        requires ready { self.old.owed + 1 ≤ self.old.ready }
+        requires there { IsSome (copy_at self.old copy.id) }
+        requires owns_none { (i : ℕ) → state_in (copy_at self.old copy.id) i ≢ Owner }
+        ensures freed { FreesSome self.old self.new copy.id }
+        ensures traced { TracesStep self.old self.new (Step.Free copy.id) }
+    {
+        self.is_sound();
+        self.let_go(alloc, copy);
+    }
+
     /// The store of a copy.
-    fn store_of(&self, copy: CopyId) -> StoreId
+    pub(crate) fn store_of(&self, copy: CopyId) -> StoreId
         requires there { IsSome (copy_at self.now copy.id) }
         ensures { store_in (copy_at self.now copy.id) ≡ Some result.id }
     {
@@ -77,7 +88,12 @@ impl<J: Journal> Directory<J> {
     }
 
     /// The host's copy of a block of a store, which is made where there is none.
-    fn host_copy(&mut self, alloc: Global, store: StoreId, block: Range) -> Result<CopyId, Memory>
+    pub(crate) fn host_copy(
+        &mut self,
+        alloc: Global,
+        store: StoreId,
+        block: Range,
+    ) -> Result<CopyId, Memory>
         requires there { IsSome (store_at self.old store.id) }
         requires block { IfSome (store_at self.old store.id) (IsBlockOf block.lo block.hi) }
         ensures home { IfOk result (λ copy. home_in (copy_at self.new copy.id)

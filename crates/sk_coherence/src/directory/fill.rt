@@ -1,12 +1,14 @@
 //! Stale indices that are filled.
 ghost use Rattle.std.specs.Prelude.{◌≡◌, ◌≢◌, ℕ, ◌+◌, ◌<◌, ◌≤◌, None, Some, IfSome, IfNone, IsSome, IfOk, OnOk, OnErr};
-ghost use Rattle.sk_copy_states.specs.Copies.{ReachesIn, state_in};
+ghost use Rattle.sk_copy_states.specs.Copies.{KeepsStates, ReachesIn, state_in};
 ghost use Rattle.sk_coherence_laws.specs.Directory.{copy_at};
 ghost use Rattle.sk_coherence_laws.specs.Moves.{CanMove, IsStaleAt};
 ghost use Rattle.sk_copy_states.specs.Sources.{MayRead};
 ghost use Rattle.sk_coherence_laws.specs.Owned.{HasOwnerAt};
 ghost use Rattle.sk_coherence_laws.specs.Serves.{Serves, GrowsAt};
 ghost use Rattle.sk_coherence_laws.specs.Steps.{Traces, IsFill};
+ghost use Rattle.sk_coherence.specs.Evicts.{IsOnHost};
+ghost use Rattle.sk_coherence.specs.Later.{IsClose, IsFillNear};
 
 use crate::directory::Directory;
 use sk_base::Range;
@@ -18,7 +20,7 @@ use std::alloc::Global;
 
 impl<J: Journal> Directory<J> {
     /// The first stale run of a range of a copy's block.
-    fn missing(&self, copy: CopyId, range: Range) -> Option<Range>
+    pub(crate) fn missing(&self, copy: CopyId, range: Range) -> Option<Range>
         requires there { IsSome (copy_at self.now copy.id) }
         requires reaches { ReachesIn (copy_at self.now copy.id) range.lo range.hi }
         ensures none { IfNone result (MayRead (copy_at self.now copy.id) range.lo range.hi) }
@@ -59,6 +61,26 @@ impl<J: Journal> Directory<J> {
         })
     }
 
+    /// Fills stale indices of a copy from another copy of its store.
+    pub(crate) fn fill_from(&mut self, alloc: Global, transfer: Transfer) -> Result<(), Memory>
+        requires can { CanMove self.old transfer.from.id transfer.to.id transfer.range.lo transfer.range.hi }
+        requires missing { IsStaleAt self.old transfer.to.id transfer.range.lo transfer.range.hi }
+        ensures serves { Serves self.old self.new }
+        ensures traced { Traces IsFill self.old self.new }
+        ensures grows { (q : ℕ) → GrowsAt self.old self.new q }
+        ensures others { (q : ℕ) → q ≢ transfer.to.id → KeepsStates (copy_at self.old q) (copy_at self.new q) }
+        ensures before { (i : ℕ) → i < transfer.range.lo →
+            state_in (copy_at self.new transfer.to.id) i ≡ state_in (copy_at self.old transfer.to.id) i }
+        ensures ok { OnOk result (MayRead (copy_at self.new transfer.to.id) transfer.range.lo transfer.range.hi) }
+        ensures near { IsClose self.old transfer.from.id transfer.to.id → Traces IsFillNear self.old self.new }
+    {
+        self.is_sound();
+        self.reserve(alloc, 1)?;
+        self.is_sound();
+        self.fill(alloc, transfer)?;
+        Ok(())
+    }
+
     /// Fills the first part of a range that is missing, from one copy, if something is; then the rest begins behind it.
     fn fill_next(&mut self, alloc: Global, copy: CopyId, need: Range) -> Result<Option<u32>, Memory>
         requires there { IsSome (copy_at self.old copy.id) }
@@ -67,6 +89,9 @@ impl<J: Journal> Directory<J> {
         ensures serves { Serves self.old self.new }
         ensures traced { Traces IsFill self.old self.new }
         ensures stays { GrowsAt self.old self.new copy.id }
+        ensures grows { (q : ℕ) → GrowsAt self.old self.new q }
+        ensures others { (q : ℕ) → q ≢ copy.id → KeepsStates (copy_at self.old q) (copy_at self.new q) }
+        ensures near { IsOnHost (copy_at self.old copy.id) → Traces IsFillNear self.old self.new }
         ensures all { IfOk result (λ rest. IfNone rest (MayRead (copy_at self.new copy.id) need.lo need.hi)) }
         ensures part { IfOk result (λ rest. IfSome rest (λ lo.
             (need.lo < lo) × (lo ≤ need.hi) × MayRead (copy_at self.new copy.id) need.lo lo)) }
@@ -78,9 +103,7 @@ impl<J: Journal> Directory<J> {
         let Some(transfer) = self.source(copy, run) else {
             return Err(Memory);
         };
-        self.reserve(alloc, 1)?;
-        self.is_sound();
-        self.fill(alloc, transfer)?;
+        self.fill_from(alloc, transfer)?;
         Ok(Some(transfer.range.hi))
     }
 
@@ -97,6 +120,9 @@ impl<J: Journal> Directory<J> {
         ensures serves { Serves self.old self.new }
         ensures traced { Traces IsFill self.old self.new }
         ensures stays { GrowsAt self.old self.new copy.id }
+        ensures grows { (q : ℕ) → GrowsAt self.old self.new q }
+        ensures others { (q : ℕ) → q ≢ copy.id → KeepsStates (copy_at self.old q) (copy_at self.new q) }
+        ensures near { IsOnHost (copy_at self.old copy.id) → Traces IsFillNear self.old self.new }
         ensures ok { OnOk result (MayRead (copy_at self.new copy.id) need.lo need.hi) }
     {
         self.is_sound();

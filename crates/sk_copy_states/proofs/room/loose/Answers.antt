@@ -1,8 +1,7 @@
-use Rattle.std.proofs.Common.{◌≡◌, ℕ, ◌∷◌, true, List, Some, rules, sym, ◌∙◌}
+use Rattle.std.proofs.Common.{◌≡◌, true, rules, sym, ◌∙◌}
 use Rattle.std.specs.Cmp.{nat_cmp_total}
 use Rattle.std.specs.Map.Iter.{deref_pair}
 use Rattle.std.proofs.lemmas.Map.Iter.{btree_map_turn, rest_more}
-use Rattle.sk_copy_states.specs.declared.held.Held.{Held}
 use Rattle.sk_copy_states.specs.Loose.{is_loose}
 use Rattle.sk_copy_states.proofs.LooseLemmas.{list_more, each_more}
 use Rattle.sk_copy_states.proofs.room.loose.Goals as goal

@@ -1,4 +1,5 @@
-use Rattle.std.proofs.Common.{rules, refl, ◌∙◌}
+use Rattle.std.proofs.Common.{arith, rules, refl, ◌∙◌}
+use Rattle.sk_coherence_laws.proofs.OweLemmas.{pinned-more}
 use Rattle.sk_coherence_laws.specs.Directory.{copy_at}
 use Rattle.sk_coherence_laws.specs.Acquires.{IsRoomFault}
 use Rattle.sk_coherence_laws.proofs.NamedMoves.{on_err_any, if_err_of}
@@ -55,9 +56,10 @@ returns-in_err-pin-clause-traced g c = let p = c.args.place in
     c.pin.ensures.same c.pin.ensures.traced
 
 pub returns-clause-ok : goal.returns-clause-ok
-returns-clause-ok g c = record {
+returns-clause-ok g c = let p = c.args.place in record {
   before = c.fill_needed.new.self;
   serves = serves-trans c.args.self.now c.place.new.self c.fill_needed.new.self c.is_sound.ensures c.place.ensures.serves c.fill_needed.ensures.serves;
+  there = home_there (copy_at c.fill_needed.new.self c.in_ok-copy.copy.id) (record { store = p.store; space = p.space; lo = p.block.lo; hi = p.block.hi }) (c.fill_needed.ensures.stays.home ∙ c.in_ok-copy.ensures.home);
   pins = c.in_ok-pin.ensures.ok;
 }
 
@@ -75,3 +77,12 @@ pub returns-clause-traced : goal.returns-clause-traced
 returns-clause-traced g c = let p = c.args.place in
     traces-pinned c.args.self.now c.place.new.self c.fill_needed.new.self c.pin.new.self p.store p.space p.block.lo p.block.hi c.place.ensures.traced c.fill_needed.ensures.traced
     c.pin.ensures.same c.pin.ensures.traced
+
+pub returns-clause-pinned : goal.returns-clause-pinned
+returns-clause-pinned g c = let p = c.args.place in let id = c.in_ok-copy.copy.id in
+    omega (
+      arith,
+      pinned-more (copy_at c.fill_needed.new.self id) (copy_at c.pin.new.self id)
+          (home_there (copy_at c.fill_needed.new.self id) (record { store = p.store; space = p.space; lo = p.block.lo; hi = p.block.hi }) (c.fill_needed.ensures.stays.home ∙ c.in_ok-copy.ensures.home))
+          c.in_ok-pin.ensures.ok.here,
+    )

@@ -24,6 +24,7 @@ pub returns-in-Ok-clause-ok : goal.returns-in-Ok-clause-ok
 returns-in-Ok-clause-ok g c = let e = c.in-Ok.ensures.ok in record {
   before = e.before;
   serves = serves-trans c.args.self.now c.find_room.new.self e.before c.is_sound.ensures c.find_room.ensures.serves e.serves;
+  there = e.there;
   pins = e.pins;
 }
 

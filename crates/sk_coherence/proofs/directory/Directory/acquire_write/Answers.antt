@@ -28,7 +28,7 @@ returns-in-Ok-clause-traced g c =
     let a = c.args.self.now in let b = c.find_room.new.self in let n = c.acquire_write_here.new.self in
     let s = c.args.store.id in let p = c.args.space in let r = c.args.block in let w = a.spaces.memories.capacity in
     traces-trans (IsDue w p (r.hi - r.lo)) a b n c.find_room.ensures.traced
-    (traces-map (IsAlloc s p r.lo r.hi) (IsDue w p (r.hi - r.lo)) b n (alloc-due s p r.lo r.hi w (r.hi - r.lo)) c.acquire_write_here.ensures.traced)
+    (traces-map (IsAlloc s p r.lo r.hi) (IsDue w p (r.hi - r.lo)) b n (alloc-due s p p r.lo r.hi w (r.hi - r.lo)) c.acquire_write_here.ensures.traced)
 
 pub returns-in-Err-clause-err : goal.returns-in-Err-clause-err
 returns-in-Err-clause-err g c = serves-trans c.args.self.now c.find_room.new.self c.acquire_write_here.new.self c.is_sound.ensures c.find_room.ensures.serves c.in-Err.ensures.err
@@ -38,4 +38,4 @@ returns-in-Err-clause-traced g c =
     let a = c.args.self.now in let b = c.find_room.new.self in let n = c.acquire_write_here.new.self in
     let s = c.args.store.id in let p = c.args.space in let r = c.args.block in let w = a.spaces.memories.capacity in
     traces-trans (IsDue w p (r.hi - r.lo)) a b n c.find_room.ensures.traced
-    (traces-map (IsAlloc s p r.lo r.hi) (IsDue w p (r.hi - r.lo)) b n (alloc-due s p r.lo r.hi w (r.hi - r.lo)) c.acquire_write_here.ensures.traced)
+    (traces-map (IsAlloc s p r.lo r.hi) (IsDue w p (r.hi - r.lo)) b n (alloc-due s p p r.lo r.hi w (r.hi - r.lo)) c.acquire_write_here.ensures.traced)

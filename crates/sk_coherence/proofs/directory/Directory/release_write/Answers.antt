@@ -5,7 +5,8 @@ use Rattle.sk_copy_states.specs.Stores.{StoreView, copies_in, changes_in, UsesWr
 use Rattle.sk_coherence_laws.specs.Directory.{DirectoryView, copy_at, store_at, cells_of_copy}
 use Rattle.sk_spaces.specs.declared.step.Step.{Step}
 use Rattle.sk_spaces.specs.Spaces.{NotesStep}
-use Rattle.sk_coherence_laws.specs.Writes.{WritesCopy, WritesIn}
+use Rattle.sk_coherence_laws.specs.Writes.{WritesCopy, WritesIn, SameRoom}
+use Rattle.sk_spaces.proofs.CopyLemmas.{taken-written}
 use Rattle.sk_coherence_laws.proofs.SoundWrite.{ready_all, distinct_all, sound-write, values}
 use Rattle.sk_coherence_laws.proofs.KeptLemmas.{sound-kept, keeps_same}
 use Rattle.sk_coherence_laws.specs.Traced.{TracesWrite}
@@ -119,3 +120,16 @@ returns-clause-legal g c =
     let n : DirectoryView = record { spaces = c.put.new.spaces; copies = c.own_alone.new.copies.entries; stores = c.use_write.new.stores.entries; next = c.self.inside.next; ready = c.self.inside.ready - 1; owed = c.saturating_sub-self-inside.result; named = c.take.new.self } in
     λ step is host says. traced-said c.args.self.now n c.args.copy.id c.args.range.lo c.args.range.hi c.args.cells.now c.requires.there host c.requires.reaches c.requires.len
     (returns-clause-traced g c) step says
+
+pub returns-clause-same : goal.returns-clause-same
+returns-clause-same g c =
+    let d : DirectoryView = record { spaces = c.self.inside.spaces; copies = c.self.inside.copies.entries; stores = c.self.inside.stores.entries; next = c.self.inside.next; ready = c.self.inside.ready; owed = c.self.inside.owed; named = c.self.inside.named } in
+    let n : DirectoryView = record { spaces = c.put.new.spaces; copies = c.own_alone.new.copies.entries; stores = c.use_write.new.stores.entries; next = c.self.inside.next; ready = c.self.inside.ready - 1; owed = c.saturating_sub-self-inside.result; named = c.take.new.self } in
+    let change = c.put.ensures.memories in
+    subst (λ (x : DirectoryView). SameRoom x n) c.self.view_is
+    (record {
+      next_copy = change.next;
+      ranks = change.ranks;
+      capacity = change.capacity;
+      used = λ space. omega (arith, change.used space, taken-written (cells_of_copy d c.args.copy.id) space c.args.range.lo c.args.cells.now);
+    })

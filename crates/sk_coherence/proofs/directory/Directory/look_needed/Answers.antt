@@ -1,0 +1,81 @@
+use Rattle.std.proofs.Common.{List, arith, sym, subst}
+use Rattle.sk_copies.specs.declared.Transfer.{Transfer}
+use Rattle.sk_coherence_laws.proofs.FillSums.{owner-carried}
+use Rattle.sk_coherence_laws.proofs.ServesLemmas.{serves-trans}
+use Rattle.sk_coherence_laws.proofs.TracesLemmas.{traces-trans}
+use Rattle.sk_coherence.specs.Later.{AreLeft, IsLater}
+use Rattle.sk_coherence.proofs.LaterLemmas.{grows-more, left-step, looked-bounds}
+use Rattle.sk_coherence.proofs.directory.Directory.look_needed.Goals as goal
+
+pub look-requires-clause-owned : goal.look-requires-clause-owned
+look-requires-clause-owned g c = λ i above below. let v = c.parts.invariant in let id = c.args.copy.id in
+    owner-carried c.args.self.now c.parts.self id i v.serves (v.grows id c.requires.there) (c.requires.owned i (omega (arith, v.above, above)) below)
+
+pub returns-in_err-looked-clause-serves : goal.returns-in_err-looked-clause-serves
+returns-in_err-looked-clause-serves g c =
+    let a = c.args.self.now in
+    let b = c.parts.self in
+    let n = c.look.new.self in
+    let v = c.parts.invariant in
+    serves-trans a b n c.is_sound.ensures v.serves c.look.ensures.serves
+
+pub returns-in_err-looked-clause-traced : goal.returns-in_err-looked-clause-traced
+returns-in_err-looked-clause-traced g c =
+    let a = c.args.self.now in
+    let b = c.parts.self in
+    let n = c.look.new.self in
+    let v = c.parts.invariant in
+    traces-trans IsLater a b n v.traced c.look.ensures.traced
+
+pub returns-in_err-looked-clause-grows : goal.returns-in_err-looked-clause-grows
+returns-in_err-looked-clause-grows g c =
+    let a = c.args.self.now in
+    let b = c.parts.self in
+    let n = c.look.new.self in
+    let v = c.parts.invariant in
+    grows-more a b n v.grows c.look.ensures.grows
+
+pub returns-in_err-keep-clause-serves : goal.returns-in_err-keep-clause-serves
+returns-in_err-keep-clause-serves g c =
+    let a = c.args.self.now in
+    let b = c.parts.self in
+    let n = c.look.new.self in
+    let v = c.parts.invariant in
+    serves-trans a b n c.is_sound.ensures v.serves c.look.ensures.serves
+
+pub returns-in_err-keep-clause-traced : goal.returns-in_err-keep-clause-traced
+returns-in_err-keep-clause-traced g c =
+    let a = c.args.self.now in
+    let b = c.parts.self in
+    let n = c.look.new.self in
+    let v = c.parts.invariant in
+    traces-trans IsLater a b n v.traced c.look.ensures.traced
+
+pub returns-in_err-keep-clause-grows : goal.returns-in_err-keep-clause-grows
+returns-in_err-keep-clause-grows g c =
+    let a = c.args.self.now in
+    let b = c.parts.self in
+    let n = c.look.new.self in
+    let v = c.parts.invariant in
+    grows-more a b n v.grows c.look.ensures.grows
+
+pub parts-preserved : goal.parts-preserved
+parts-preserved g c =
+    let a = c.args.self.now in
+    let b = c.parts.self in
+    let n = c.look.new.self in
+    let v = c.parts.invariant in
+    let id = c.args.copy.id in
+    let need = c.args.need in
+    let looked = c.in_ok-looked.looked in
+    let is = c.in_ok-looked.ensures.looked in
+    let bounds = looked-bounds n id c.parts.lo need.hi looked.hi looked.transfer is in
+    record {
+      above = omega (arith, v.above, bounds.0);
+      below = bounds.1;
+      serves = serves-trans a b n c.is_sound.ensures v.serves c.look.ensures.serves;
+      traced = traces-trans IsLater a b n v.traced c.look.ensures.traced;
+      grows = grows-more a b n v.grows c.look.ensures.grows;
+      left = subst (λ (ts : List Transfer). AreLeft n id need.lo looked.hi ts) (sym c.in_ok-keep.ensures)
+          (left-step b n id need.lo c.parts.lo need.hi looked.hi c.parts.transfers.items looked.transfer c.look.ensures.grows c.look.ensures.before v.above v.left is);
+    }

@@ -1,0 +1,10 @@
+pub mod HostLines
+pub mod CellLemmas
+pub mod PutLemmas
+pub mod AlterLemmas
+pub mod ReadLemmas
+pub mod PartLemmas
+pub mod FlatLemmas
+pub mod SaysLemmas
+pub mod MadeLemmas
+pub mod Lists

@@ -1,0 +1,32 @@
+use Rattle.sk_base.specs.Shape.{cells_of}
+use Rattle.sk_copy_states.specs.Stores.{len_in}
+use Rattle.sk_coherence_laws.specs.Directory.{store_at}
+use Rattle.sk_coherence_laws.proofs.FillSums.{traces-idle}
+use Rattle.sk_coherence_laws.proofs.NamedMoves.{on_err_any}
+use Rattle.sk_coherence_laws.proofs.ServesLemmas.{idle-reserve, serves-idle}
+use Rattle.sk_container.specs.Made.{IsMaking}
+use Rattle.sk_container.proofs.MadeLemmas.{makes-filled, writes-same, either, undoes-closed, undoes-left, traces-undone}
+use Rattle.sk_container.proofs.made.open_with.Goals as goal
+
+pub returns-in_err-store-clause-traced : goal.returns-in_err-store-clause-traced
+returns-in_err-store-clause-traced g c = let a = c.args.dir.now in let e = c.in_err-store.ensures in
+    on_err_any c.from_residual.result (traces-idle (IsMaking a.next) a c.open.new.self (idle-reserve a c.open.new.self e.err e.spaces e.kept))
+
+pub returns-in-Ok-clause-made : goal.returns-in-Ok-clause-made
+returns-in-Ok-clause-made g c = let b = c.open.new.self in let n = c.fill_all.new.dir in let id = c.in_ok-store.store.id in let shape = c.args.shape.now in
+    makes-filled c.args.dir.now b id c.args.ty shape c.is_sound.ensures c.in_ok-store.ensures.ok n c.args.cell
+    (writes-same b n id (cells_of shape) c.args.cells.now c.args.cell c.requires.same c.in-Ok.ensures.written)
+
+pub returns-in-Err-clause-err : goal.returns-in-Err-clause-err
+returns-in-Err-clause-err g c =
+    let a = c.args.dir.now in let b = c.open.new.self in let m = c.fill_all.new.dir in let n = c.close.new.self in
+    let id = c.in_ok-store.store.id in let ty = c.args.ty in let shape = c.args.shape.now in let o = c.in_ok-store.ensures.ok in
+    either c.close.result c.close.ensures.ok c.close.ensures.err
+    (λ closes. undoes-closed a b id ty shape c.is_sound.ensures o m n c.in-Err.ensures.err closes)
+    (λ idles. undoes-left a b id ty shape c.is_sound.ensures o m n c.in-Err.ensures.err (serves-idle m n idles))
+
+pub returns-in-Err-clause-traced : goal.returns-in-Err-clause-traced
+returns-in-Err-clause-traced g c =
+    let a = c.args.dir.now in let b = c.open.new.self in let m = c.fill_all.new.dir in let n = c.close.new.self in
+    let id = c.in_ok-store.store.id in
+    traces-undone a b m n id (len_in (store_at m id)) c.args.ty c.args.shape.now c.in_ok-store.ensures.ok c.in_ok-store.ensures.traced c.in-Err.ensures.traced c.close.ensures.traced

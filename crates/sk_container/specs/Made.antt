@@ -1,0 +1,74 @@
+-- A new container.
+use Rattle.std.specs.Prelude.{◌≡◌, ◌≢◌, ℕ, ℤ, ◌+◌, ◌<◌, ◌≤◌, List, replicate, Some, None, IsSome, option_map, ◌⊎◌}
+use Rattle.sk_base.specs.declared.number.Ty.{Ty}
+use Rattle.sk_base.specs.Shape.{cells_of, shape_of}
+use Rattle.sk_spaces.specs.declared.step.Step.{Step}
+use Rattle.sk_spaces.specs.declared.step.Step.TheVariants.{Store, Fill}
+use Rattle.sk_spaces.specs.Machine.{Machine}
+use Rattle.sk_copy_states.specs.Copies.{pins_in}
+use Rattle.sk_copy_states.specs.Stores.{opened}
+use Rattle.sk_coherence_laws.specs.Directory.{DirectoryView, copy_at, store_at}
+use Rattle.sk_coherence_laws.specs.Retires.{IsClosing}
+use Rattle.sk_coherence_laws.specs.Serves.{GrowsAt, WasEvicted, unlisted}
+use Rattle.sk_coherence_laws.specs.Steps.{Traces}
+use Rattle.sk_container.specs.declared.faults.ContainerFault.{ContainerFault}
+use Rattle.sk_container.specs.Cells.{HasCell}
+use Rattle.sk_container.specs.Faults.{IsContainerFault}
+use Rattle.sk_container.specs.Lines.{IsHosting, TracesOne, TracesThen}
+use Rattle.sk_container.specs.Smart.{SmartView, Holds}
+
+-- what was there before a store was opened stays: each index keeps its owner's cell, each copy that is pinned stays, and every store
+-- but for the list of its copies
+pub record Spares (old new : DirectoryView) : Type 0 where
+  pub stays : (q : ℕ) → IsSome (copy_at old q) → GrowsAt old new q ⊎ WasEvicted old new q
+  pub fresh : (q : ℕ) → copy_at old q ≡ None → IsSome (copy_at new q) → (old.spaces.memories.next ≤ q) × (pins_in (copy_at new q) ≡ 0)
+  pub owned : (t i : ℕ) (x : ℤ) → t ≢ old.next → HasCell old t i x → HasCell new t i x
+  pub owners : (t i : ℕ) (x : ℤ) → t ≢ old.next → HasCell new t i x → HasCell old t i x
+  pub stores : (t : ℕ) → t ≢ old.next → option_map unlisted (store_at new t) ≡ option_map unlisted (store_at old t)
+  pub owed : new.owed ≡ old.owed
+  pub next_copy : old.spaces.memories.next ≤ new.spaces.memories.next
+  pub ranks : new.spaces.memories.ranks ≡ old.spaces.memories.ranks
+  pub capacity : new.spaces.memories.capacity ≡ old.spaces.memories.capacity
+
+-- a new store has this cell at each index, and nothing else changed
+pub record Makes (old new : DirectoryView) (smart : SmartView) (ty : Ty) (x : ℤ) : Type 0 where
+  pub number : smart.store ≡ old.next
+  pub next : new.next ≡ old.next + 1
+  pub store : option_map unlisted (store_at new smart.store) ≡ Some (opened ty smart.shape None)
+  pub holds : Holds new smart (replicate (cells_of smart.shape) x)
+  pub spares : Spares old new
+
+-- nothing that was there changed; where memory was wanting for that too, the new store is left, and nobody owns an index of it
+pub record Undoes (old new : DirectoryView) : Type 0 where
+  pub spares : Spares old new
+  pub next : old.next ≤ new.next
+  pub unowned : (i : ℕ) (x : ℤ) → HasCell new old.next i x → ⊥
+
+-- the line of a new store was noted, and then one that fills it, where it has cells
+pub record NotesMade (old new : DirectoryView) (smart : SmartView) (ty : Ty) (x : ℤ) : Type 0 where
+  pub opened : DirectoryView
+  pub first : TracesOne (Store smart.store ty smart.shape) old opened
+  pub filled : 0 < cells_of smart.shape → TracesThen (λ copy. Fill copy 0 (cells_of smart.shape) x) opened new
+  pub empty : cells_of smart.shape ≡ 0 → new ≡ opened
+
+-- this store is opened
+abbrev pub IsOpening : ℕ → Machine → Step → Type 0
+IsOpening s m (Store store ty shape) = store ≡ s
+IsOpening s m _ = ⊥
+
+-- why a container that is not made takes a step: its store is opened, a copy is made for it, or the store is closed again
+abbrev pub IsMaking : ℕ → Machine → Step → Type 0
+IsMaking s m step = IsOpening s m step ⊎ IsHosting m step ⊎ ((len : ℕ) × IsClosing s len m step)
+
+-- a new container of these sizes, with this cell at each index
+pub record IsNew (old new : DirectoryView) (sizes : List ℤ) (ty : Ty) (x : ℤ) (smart : SmartView) : Type 0 where
+  pub shape : shape_of sizes ≡ Some smart.shape
+  pub makes : Makes old new smart ty x
+  pub notes : NotesMade old new smart ty x
+
+-- no container of these sizes, and why
+pub record IsNotMade (old new : DirectoryView) (sizes : List ℤ) (fault : ContainerFault) : Type 0 where
+  pub cause : IsContainerFault sizes fault
+  pub early : shape_of sizes ≡ None → new ≡ old
+  pub undoes : Undoes old new
+  pub notes : Traces (IsMaking old.next) old new

@@ -5,7 +5,8 @@ use Rattle.std.specs.Prelude.{IsSomeAnd}
 use Rattle.sk_outside.specs.Faults.{Faults}
 use Rattle.sk_outside.specs.Holding.{Contents, SinkHolding, Tells, TellsLonger}
 use Rattle.sk_world.specs.World.{Ending, End, Trapped, Bound}
-use Rattle.sk_cli.specs.Answer.{Answer, Command, Reading, Usage, Run, TooLong, NoProgram, Read, IsAnswerBy, IsAnswerToBytes, IsWant, Gives, Took, TookPrefix, Told, PrintsPart, after_reading, chain_of, ended_status, refused, run_of_file}
+use Rattle.sk_cli.specs.Answer.{Answer, Command, Usage, Run, IsAnswerBy, IsAnswerToBytes, IsWant, Gives, Took, TookPrefix, Told, PrintsPart, after_reading, chain_of, ended_status, refused, run_of_file}
+use Rattle.sk_cli.specs.Sources.{Reading, TooLong, NoTokens, NoProgram, Untyped, Later, Read}
 
 -- there are bytes of any number
 longer-than : (limit : ℕ) → (bytes : List ℕ) × (limit < length bytes)
@@ -47,7 +48,7 @@ want-with command IsAnswer reads reads' out err err' answer is silent printed to
 -- what answers the bytes of a file answers what is asked
 module _ (IsAnswer Further : Answer → Type 0) (goes : (answer : Answer) → IsAnswer answer → Further answer) (out out' : SinkHolding) where
   pub part-further : PrintsPart IsAnswer out out' → PrintsPart Further out out'
-  part-further part = (part.0, goes part.0 part.1, part.2)
+  part-further part = (part.0, goes part.0 part.1, part.2, part.3)
 
   pub want-further : (command : Command) (reads reads' : Faults) (err err' : SinkHolding)
       → IsWant command IsAnswer reads reads' out out' err err' → IsWant command Further reads reads' out out' err err'
@@ -74,11 +75,18 @@ ended-status End seven = omega arith
 ended-status (Trapped trap line element) seven = omega arith
 ended-status Bound seven = omega arith
 
--- no answer to the bytes of a file has the status of a read that failed
+-- a refusal has not the status of a read that failed
+refused-status : (answer : Answer) (line : List ℕ) → answer ≡ refused 1 line → answer.status ≡ 7 → ⊥
+refused-status answer line same seven = let one : answer.status ≡ 1 = ap (λ (a : Answer). a.status) same in omega (arith, one, seven)
+
+-- no answer to the bytes of a file has it
 pub bytes-status : (source : List ℕ) (answer : Answer) → IsAnswerToBytes source answer → answer.status ≡ 7 → ⊥
 bytes-status source answer is seven = let read = is None [] in of read.0 read.2
   where
     of : (reading : Reading) → IsAnswerBy None (after_reading (run_of_file []) reading) answer → ⊥
-    of TooLong same = let one : answer.status ≡ 1 = ap (λ (a : Answer). a.status) same in omega (arith, one, seven)
-    of NoProgram same = let one : answer.status ≡ 1 = ap (λ (a : Answer). a.status) same in omega (arith, one, seven)
+    of TooLong same = refused-status answer _ same seven
+    of (NoTokens fault) same = refused-status answer _ same seven
+    of (NoProgram refusal token) same = refused-status answer _ same seven
+    of (Untyped fault) same = refused-status answer _ same seven
+    of Later same = refused-status answer _ same seven
     of (Read program) same = ended-status _ (sym (ap (λ (a : Answer). a.status) same) ∙ seven)

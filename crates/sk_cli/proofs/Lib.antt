@@ -1,10 +1,6 @@
 pub mod AnswerLemmas
 pub mod AskedLemmas
-pub mod FirstCall
-pub mod FirstFunction
-pub mod FirstObject
-pub mod FirstStatements
-pub mod MainFirst
-pub mod PartsLemmas
-pub mod RanLemmas
-pub mod VectorLemmas
+pub mod OneAnswer
+pub mod Refusals
+pub mod Runs
+pub mod TokenCount

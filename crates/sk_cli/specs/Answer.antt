@@ -1,15 +1,14 @@
 -- What a command answers.
-use Rattle.std.specs.Prelude.{◌≡◌, ◌⊎◌, ℕ, ◌^◌, ◌<◌, ◌≤◌, List, [], ◌∷◌, ◌++◌, length, Contains, Option, Some, None, if◌then◌else◌, false, codes}
+use Rattle.std.specs.Prelude.{◌≡◌, ◌⊎◌, ℕ, List, [], ◌∷◌, ◌++◌, length, Contains, Option, Some, None, if◌then◌else◌, false, codes}
 use Rattle.std.specs.Fmt.{decimal}
 use Rattle.std.specs.Io.KnownBytes.{Appends}
 use Rattle.sk_base.specs.declared.number.Trap.{Trap as TrapKind}
 use Rattle.sk_base.specs.declared.number.Trap.TheVariants.{Divide, Index, Turns, Shape, Empty}
-use Rattle.sk_first.specs.FirstForm.{IsFirst, IsNotFirst}
+use Rattle.sk_cli.specs.Sources.{IsReading, Read, Reading, numbered_line, refused_line}
 use Rattle.sk_main_run.specs.MainRun.{run_of_program}
 use Rattle.sk_names.specs.Bytes.{same_bytes}
 use Rattle.sk_outside.specs.Faults.{Faults, Rose}
 use Rattle.sk_outside.specs.Holding.{Contents, Tells, SinkHolding, AppendsPrefix}
-use Rattle.sk_tree.specs.declared.tree.Program.{Program}
 use Rattle.sk_world.specs.Runs.{ProgramRun}
 use Rattle.sk_world.specs.World.{Container, Ending, End, Trapped, Bound}
 
@@ -59,21 +58,6 @@ pub record Answer : Type 0 where
   pub line : List ℕ
   pub dumped : Option (List ℕ × List Container)
 
--- what the bytes of a source are: too many, no program, or a program
-pub data Reading : Type 0 where
-  TooLong : Reading
-  NoProgram : Reading
-  Read : Program → Reading
-
--- a source has at most 2^20 bytes
-abbrev pub source_limit : ℕ
-source_limit = 2 ^ 20
-
-abbrev pub IsReading : (source : List ℕ) → Reading → Type 0
-IsReading source TooLong = source_limit < length source
-IsReading source NoProgram = (length source ≤ source_limit) × IsNotFirst source
-IsReading source (Read program) = (length source ≤ source_limit) × IsFirst source program
-
 -- an answer that prints nothing
 abbrev pub refused : ℕ → List ℕ → Answer
 refused status line = record { status = status; printed = []; line = line; dumped = None }
@@ -98,7 +82,7 @@ ended_status Bound = 4
 abbrev pub ended_line : (bound : ℕ) → Ending → List ℕ
 ended_line bound End = []
 ended_line bound (Trapped trap line element) = trap_line trap line element
-ended_line bound Bound = codes "bound " ++ decimal bound ++ codes "\n"
+ended_line bound Bound = numbered_line (codes "bound ") bound
 
 -- the answer to a run of a program
 abbrev pub ran : RunCommand → ProgramRun → Answer
@@ -109,6 +93,10 @@ ran command run = record {
   dumped = elim command.dump [ Some name ↦ Some (name, run.containers) | None ↦ None ];
 }
 
+-- the answer to a run where nothing else is asked for than the run of a file
+abbrev pub ran_alone : ProgramRun → Answer
+ran_alone = ran (run_of_file [])
+
 -- What a call does to the outside, one step after another: it answers, or it reads a file and goes on with its bytes, or it
 -- finds what a source is and goes on with that. So a later file is looked at only where nothing was refused before.
 pub data Chain : Type 0 where
@@ -116,11 +104,10 @@ pub data Chain : Type 0 where
   Reads : (name : List ℕ) → (List ℕ → Chain) → Chain
   Parses : (source : List ℕ) → (Reading → Chain) → Chain
 
--- a run without inputs, which is what a program of the first form needs
+-- a run without inputs, which is what a program of vectors needs; or the refusal of the source
 abbrev pub after_reading : RunCommand → Reading → Chain
-after_reading command TooLong = Answers (refused 1 (codes "refused long\n"))
-after_reading command NoProgram = Answers (refused 1 (codes "refused later\n"))
 after_reading command (Read program) = Answers (ran command (run_of_program program [] command.bound false))
+after_reading command reading = Answers (refused 1 (refused_line reading))
 
 -- the chain behind the bytes of the source
 abbrev pub after_source : RunCommand → (source : List ℕ) → Chain
@@ -159,15 +146,19 @@ TookPrefix bytes before now = AppendsPrefix before.taken now.taken bytes
 abbrev pub Told : (line : List ℕ) → (before now : SinkHolding) → Type 0
 Told line before now = Took line before now ⊎ (Rose before.faults now.faults × TookPrefix line before now)
 
--- The call gave the answer: its status, all of its bytes, and its line.
+-- The call gave the answer: its status, all of its bytes, and its line, as far as the error stream took it.
 pub record Gives (answer : Answer) (given : ℕ) (out out' err err' : SinkHolding) : Type 0 where
   pub status : given ≡ answer.status
   pub printed : Took answer.printed out out'
   pub told : Told answer.line err err'
 
--- a prefix of what the answer prints was printed
+-- the answer to a run, and to no refusal
+abbrev pub IsOfRun : Answer → Type 0
+IsOfRun answer = (answer.status ≡ 0) ⊎ (answer.status ≡ 3) ⊎ (answer.status ≡ 4)
+
+-- a prefix of what the run prints that is the answer was printed
 abbrev pub PrintsPart : (Answer → Type 0) → (out out' : SinkHolding) → Type 0
-PrintsPart IsAnswer out out' = (answer : Answer) × IsAnswer answer × TookPrefix answer.printed out out'
+PrintsPart IsAnswer out out' = (answer : Answer) × IsAnswer answer × IsOfRun answer × TookPrefix answer.printed out out'
 
 abbrev pub read_fault_line : List ℕ → List ℕ
 read_fault_line name = codes "read fault " ++ name ++ codes "\n"
@@ -207,7 +198,7 @@ pub record IsWantBefore (command : Command) (reads reads' : Faults) (out out' er
 pub record IsWantWith (answer : Answer) (out out' err err' : SinkHolding) : Type 0 where
   pub printed : TookPrefix answer.printed out out'
   pub told : TookPrefix memory_line err err' ⊎ TookPrefix answer.line err err'
-      ⊎ (Rose out.faults out'.faults × TookPrefix write_fault_line err err')
+      ⊎ (IsOfRun answer × Rose out.faults out'.faults × TookPrefix write_fault_line err err')
 
 -- memory was wanting
 abbrev pub IsWant : Command → (Answer → Type 0) → (reads reads' : Faults) → (out out' err err' : SinkHolding) → Type 0

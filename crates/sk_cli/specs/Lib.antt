@@ -1,5 +1,4 @@
 pub mod Answer
-pub mod FirstProgram
-pub mod FirstRun
-pub mod Parts
-pub mod VectorMap
+pub mod Faults
+pub mod OneAnswer
+pub mod Sources

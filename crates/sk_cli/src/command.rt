@@ -1,19 +1,21 @@
 //! The top call.
 ghost use Rattle.std.specs.Prelude.{◌≡◌, ◌⊎◌, ◌<◌, ◌≤◌, ◌^◌, length, map, string_bytes};
-ghost use Rattle.sk_cli.specs.Answer.{Answer, Command, IsAnswer, IsAnswerToBytes, Gives, PrintsPart, IsReadFault, IsWriteFault, IsWant, asked_of, source_limit};
+ghost use Rattle.sk_cli.specs.Answer.{Answer, Command, IsAnswer, IsAnswerToBytes, Gives, PrintsPart, IsReadFault, IsWriteFault, IsWant, asked_of};
+ghost use Rattle.sk_cli.specs.Sources.{source_limit};
 ghost use Rattle.sk_outside.specs.Faults.{Faults};
 
-use crate::first_run::run_first;
-use crate::report::{tell, tell_read_fault, tell_want, tell_write_fault};
+use crate::refused::tell_refused;
+use crate::report::{tell, tell_read_fault, tell_want};
+use crate::run::run_object;
+use crate::source::compiled;
 use crate::words::asked;
-use sk_first::{FirstFault, first};
-use sk_outside::{FileAnswer, Files, Sink, WriteAnswer};
+use sk_outside::{FileAnswer, Files, Sink};
 use std::alloc::Global;
 
 /// How many bytes a source may have: 1 MiB.
 const SOURCE_LIMIT: usize = 1 << 20;
 
-/// Answers the bytes of a source: parses them, runs their program, and tells a refusal or a fault on the error stream.
+/// Answers the bytes of a source: compiles and runs their program, and tells a refusal, a trap or a fault on the error stream.
 fn run_source<O: Sink, E: Sink>(alloc: Global, source: &[u8], out: &mut O, err: &mut E) -> u8
     requires { length source.now ≤ source_limit }
     ensures answered { (result ≡ 8) ⊎ (result ≡ 9) ⊎ ((answer : Answer) × IsAnswerToBytes source.now answer
@@ -25,15 +27,9 @@ fn run_source<O: Sink, E: Sink>(alloc: Global, source: &[u8], out: &mut O, err: 
         reads reads' (O.holds out.old) (O.holds out.new) (E.holds err.old) (E.holds err.new) }
     ensures steady { (result ≡ 8) ⊎ (result ≡ 9) ⊎ ((O.holds out.new).faults ≡ (O.holds out.old).faults) }
 {
-    let program = match first(alloc, source) {
-        Ok(program) => program,
-        Err(FirstFault::Later) => return tell(alloc, err, b"refused later\n", 1),
-        Err(FirstFault::Memory) => return tell_want(alloc, err),
-    };
-    match run_first(alloc, &program, out) {
-        Ok(()) => 0,
-        Err(WriteAnswer::Failed) => tell_write_fault(alloc, err, 8),
-        Err(WriteAnswer::Memory) => tell_want(alloc, err),
+    match compiled(alloc, source) {
+        Ok(object) => run_object(alloc, &object, out, err),
+        Err(fault) => tell_refused(alloc, err, fault),
     }
 }
 

@@ -2,18 +2,20 @@
 //!
 //! - `command`: the top call.
 //! - `words`: what the words of the command line ask for.
-//! - `report`: lines on the error stream.
-//! - `parts`: the numbers that stand in the tree of a program of the first form.
-//! - `vector_map`: a Map over a vector.
-//! - `first_run`: the run of such a program.
+//! - `source`: from the bytes of a source to its compiled program.
+//! - `run`: the run of that program.
+//! - `report`, `refused`: lines on the error stream.
+//! - `laws`: that there is one answer.
 #![tactic(auto)]
 
 mod command;
-mod first_run;
-mod parts;
+mod laws;
+mod refused;
 mod report;
-mod vector_map;
+mod run;
+mod source;
 mod words;
 
 pub use command::skepu;
+pub use laws::words_have_one_answer;
 pub use report::WANT_OF_MEMORY;

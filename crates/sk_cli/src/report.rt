@@ -1,9 +1,12 @@
 //! Lines on the error stream.
 ghost use Rattle.std.specs.Prelude.{◌≡◌, ◌⊎◌, IfOk};
 ghost use Rattle.sk_cli.specs.Answer.{Told, TookPrefix, memory_line, write_fault_line};
+ghost use Rattle.sk_cli.specs.Sources as sources;
 ghost use Rattle.sk_cli.specs.Answer as answer;
 
+use sk_base::Trap;
 use sk_outside::{Sink, WriteAnswer};
+use sk_words::put_decimal;
 use std::alloc::{AllocError, Global};
 
 /// The status of want of memory.
@@ -56,4 +59,72 @@ fn read_fault_line(alloc: Global, name: &str) -> Result<Vec<u8>, AllocError>
     line.extend_from_slice(name.as_bytes())?;
     line.extend_from_slice(b"\n")?;
     Ok(line)
+}
+
+/// Tells words and a number.
+pub fn tell_numbered<E: Sink>(
+    alloc: Global,
+    err: &mut E,
+    words: &[u8],
+    number: u64,
+    status: u8,
+) -> u8
+    ensures told { (result ≡ WANT_OF_MEMORY) ⊎ ((result ≡ status) × Told (sources.numbered_line words.now number) (E.holds err.old) (E.holds err.new)) }
+    ensures prefix { TookPrefix (sources.numbered_line words.now number) (E.holds err.old) (E.holds err.new) }
+{
+    match numbered_line(alloc, words, number) {
+        Ok(line) => tell(alloc, err, line.as_slice(), status),
+        Err(_) => WANT_OF_MEMORY,
+    }
+}
+
+/// A line of words and a number.
+fn numbered_line(alloc: Global, words: &[u8], number: u64) -> Result<Vec<u8>, AllocError>
+    ensures { IfOk result (λ line. line.items ≡ sources.numbered_line words.now number) }
+{
+    let mut line = Vec::from_slice(alloc, words)?;
+    put_decimal(&mut line, number)?;
+    line.extend_from_slice(b"\n")?;
+    Ok(line)
+}
+
+/// The status of a trap.
+const TRAPPED: u8 = 3;
+
+/// Tells a trap with its line and its element.
+pub fn tell_trap<E: Sink>(alloc: Global, err: &mut E, trap: Trap, line: u32, element: u32) -> u8
+    ensures told { (result ≡ WANT_OF_MEMORY) ⊎ ((result ≡ TRAPPED) × Told (answer.trap_line trap line element) (E.holds err.old) (E.holds err.new)) }
+    ensures prefix { TookPrefix (answer.trap_line trap line element) (E.holds err.old) (E.holds err.new) }
+{
+    match trap_line(alloc, trap, line, element) {
+        Ok(told) => tell(alloc, err, told.as_slice(), TRAPPED),
+        Err(_) => WANT_OF_MEMORY,
+    }
+}
+
+/// The line that tells a trap.
+fn trap_line(alloc: Global, trap: Trap, line: u32, element: u32) -> Result<Vec<u8>, AllocError>
+    ensures { IfOk result (λ told. told.items ≡ answer.trap_line trap line element) }
+{
+    let mut told = Vec::from_slice(alloc, b"trap ")?;
+    told.extend_from_slice(trap_word(trap))?;
+    told.extend_from_slice(b" line ")?;
+    put_decimal(&mut told, line as u64)?;
+    told.extend_from_slice(b" element ")?;
+    put_decimal(&mut told, element as u64)?;
+    told.extend_from_slice(b"\n")?;
+    Ok(told)
+}
+
+/// The word for a kind of trap.
+fn trap_word(trap: Trap) -> &'static [u8]
+    ensures { result.now ≡ answer.trap_word trap }
+{
+    match trap {
+        Trap::Divide => b"divide",
+        Trap::Index => b"index",
+        Trap::Turns => b"turns",
+        Trap::Shape => b"shape",
+        Trap::Empty => b"empty",
+    }
 }

@@ -1,28 +1,29 @@
-ghost use Rattle.std.specs.Prelude.{◌≡◌, IfOk};
-ghost use Rattle.sk_scheme.specs.Plans as plans;
-ghost use Rattle.sk_isa.specs.SoundObjects.{HasSoundFunctions, TakesScalars};
-ghost use Rattle.sk_plain.specs.Means.{MeansSource};
-ghost use Rattle.sk_plain.specs.Plain.{IsPlain};
+ghost use Rattle.std.specs.Prelude.{◌≡◌, true, IfOk};
+ghost use Rattle.sk_main_scheme.specs.Objects.{StandsFor, bare_of, object_of};
+ghost use Rattle.sk_typed_laws.specs.Forms.{IsFromTextWithin};
+ghost use Rattle.sk_typing.specs.Typing.{IsTyped};
+ghost use Rattle.sk_vector_form.specs.VectorForm.{has_vector_form};
+ghost use Rattle.sk_vector_laws.specs.Vectors.{IsRunnable};
 
-use sk_emitter::compiled;
 use sk_isa::Object;
 use sk_tree::Program;
 use std::alloc::{AllocError, Global};
 
-/// The compiled form of a program whose functions alone are compiled: main's code is empty, no function is marked, and each
-/// plan offers to be run sequentially alone. It is taken of every program, plain or not: where a name is not in scope,
-/// or is no value, nothing is compiled. A name is found in constant time, so the cost is that of the program's length.
+/// The compiled form of a program, main included, in which no function is marked and each plan offers to be run sequentially
+/// alone: it stands for the program. It is taken of every program: where a name is not in scope, or is no value, nothing
+/// is compiled. A name is found in constant time, so the cost is that of the program's length.
 ///
 /// # Errors
 ///
-/// Want of memory, which is also the answer where a code has 2^32 instructions, slots or values on its stack, or a
-/// declaration's number of elements is 2^32, or more.
-pub fn plain(alloc: Global, program: &Program) -> Result<Object, AllocError>
-    ensures object { IfOk result (λ object. object ≡ plans.functions_object program.now) }
-    ensures sound { IsPlain program.now → IfOk result (λ object. HasSoundFunctions object) }
-    ensures scalars { IsPlain program.now → IfOk result (λ object. TakesScalars object) }
-    ensures means { IsPlain program.now → IfOk result (λ object. MeansSource program.now object) }
+/// Want of memory, which is also the answer where a code has 2^32 instructions, slots or values on its stack, or where there
+/// are 2^32 containers or instances, or a declaration's number of elements is 2^32, or more.
+pub fn compile(alloc: Global, program: &Program) -> Result<Object, AllocError>
+    ensures object { IfOk result (λ object. object ≡ bare_of (object_of program.now)) }
+    ensures stands { IfOk result (λ object. StandsFor object program.now) }
+    // A program of vectors that a text has, and that keeps the rules of names and types, is run by its compiled form.
+    ensures runs { IsTyped program.now → IsFromTextWithin program.now → has_vector_form program.now ≡ true
+        → IfOk result (λ object. IsRunnable object program.now) }
 {
-    let object = compiled(alloc, program)?;
+    let object = sk_main_emitter::compile(alloc, program)?;
     Ok(object)
 }

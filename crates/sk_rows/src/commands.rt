@@ -23,7 +23,7 @@ fn prints_nine_digits(alloc: Global) -> Result<String, AllocError> {
 }
 
 #[test]
-fn an_example_and_its_refusal(rt: HostRuntime) -> Result<(), Fail> {
+fn an_example_and_its_trap(rt: HostRuntime) -> Result<(), Fail> {
     let alloc = rt.alloc();
     expect_run(
         &rt,
@@ -33,7 +33,8 @@ fn an_example_and_its_refusal(rt: HostRuntime) -> Result<(), Fail> {
         "twice",
     )?;
     let outside = twice().replace(alloc, "a(2)", "a(3)")?;
-    expect_run(&rt, alloc, outside.as_bytes(), Wanted::refused(), "a(3)")?;
+    let trap = Wanted::silent(3, "trap index line 6 element 0\n");
+    expect_run(&rt, alloc, outside.as_bytes(), trap, "a(3)")?;
     let digits = prints_nine_digits(alloc)?;
     expect_run(
         &rt,
@@ -93,6 +94,12 @@ fn faults(rt: HostRuntime) -> Result<(), Fail> {
             Wanted::silent(7, "read fault gone\n"),
         ),
         (RUN, b"", untold, Wanted::silent(1, "")),
+        (
+            RUN,
+            b"int main() { return 1 / 0; }",
+            untold,
+            Wanted::silent(3, ""),
+        ),
         (&gone, b"", untold, Wanted::silent(7, "")),
     ];
     for (words, source, faults, wanted) in rows {

@@ -4,14 +4,11 @@
 //!
 //! - `runs`: one run, and what it left behind.
 //! - `commands`: command lines, and faults of the file and the streams.
-//! - `near_misses`: programs that are just of the first form, or just not.
-//! - `sources`: sources that are no program, and the longest one.
+//! - `sources`: the longest source and a longer one, and the longest vector.
 #![tactic(auto)]
 
 #[cfg(test)]
 mod commands;
-#[cfg(test)]
-mod near_misses;
 #[cfg(test)]
 mod runs;
 #[cfg(test)]

@@ -60,11 +60,6 @@ impl<'a> Wanted<'a> {
             line,
         }
     }
-
-    /// The refusal of a source that is no program of the first form.
-    pub fn refused() -> Self {
-        Wanted::silent(1, "refused later\n")
-    }
 }
 
 impl Ran {

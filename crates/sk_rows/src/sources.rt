@@ -1,4 +1,4 @@
-//! Sources that are no program, and the longest one.
+//! The longest source and a longer one, and the longest vector of one row.
 use crate::runs::{Wanted, expect_run, prints_42};
 use std::alloc::{AllocError, Global};
 use std::test::Fail;
@@ -11,20 +11,6 @@ fn padded(alloc: Global, len: usize) -> Result<Vec<u8>, AllocError> {
     let mut source = Vec::from_slice(alloc, prints_42().as_bytes())?;
     source.resize(len, b' ')?;
     Ok(source)
-}
-
-#[test]
-fn no_programs(rt: HostRuntime) -> Result<(), Fail> {
-    let rows: [(&[u8], &str); 4] = [
-        (b"", "the empty source"),
-        (b"int main() { return 0; }", "an empty main"),
-        (b"@", "a byte of no token"),
-        (b"\xFF\xFE", "bytes of no text"),
-    ];
-    for (source, row) in rows {
-        expect_run(&rt, rt.alloc(), source, Wanted::refused(), row)?;
-    }
-    Ok(())
 }
 
 #[test]
@@ -41,5 +27,15 @@ fn the_longest_source_and_a_longer_one(rt: HostRuntime) -> Result<(), Fail> {
     let source = padded(alloc, LONGEST + 1)?;
     let long = Wanted::silent(1, "refused long\n");
     expect_run(&rt, alloc, &source, long, "a longer source")?;
+    Ok(())
+}
+
+#[test]
+fn a_long_vector(rt: HostRuntime) -> Result<(), Fail> {
+    let alloc = rt.alloc();
+    let source = prints_42().replace(alloc, "data(3, 21)", "data(16777216, 21)")?;
+    let source = source.replace(alloc, "data(2)", "data(16777215)")?;
+    let ended = Wanted::ended("42\n");
+    expect_run(&rt, alloc, source.as_bytes(), ended, "a long vector")?;
     Ok(())
 }

@@ -1,60 +1,55 @@
--- A source that was read is answered as its run.
-use Rattle.std.proofs.Common.{rules, arith, [], Err, refl, ap, inl, inr, codes}
-use Rattle.sk_first.specs.FirstForm.{IsFirst}
-use Rattle.sk_cli.specs.Answer.{Answer, NoProgram, IsAnswerToBytes, Took, Told, refused}
-use Rattle.sk_cli.proofs.AnswerLemmas.{want-with, silent-answer}
-use Rattle.sk_cli.proofs.RanLemmas.{answer-first, ended_answer}
+-- A source's answer is its run, or the line of its refusal.
+use Rattle.std.proofs.Common.{rules, ◌≡◌, ◌⊎◌, ◌≤◌, ℕ, List, [], true, false, Err, length, ap, sym, subst, inl, inr}
+use Rattle.sk_cli.specs.Answer.{Answer, IsAnswerToBytes, IsOfRun, Took, ran_alone, statement_limit}
+use Rattle.sk_cli.specs.Faults.{TellsSource, reading_of}
+use Rattle.sk_cli.specs.Sources.{SpellsTyped, source_limit}
+use Rattle.sk_cli.proofs.Refusals.{refusal-answered, told-answer, told-want}
+use Rattle.sk_cli.proofs.Runs.{ran-of_run, run-answer}
+use Rattle.sk_isa.specs.declared.object.Object.{Object}
+use Rattle.sk_main_code.specs.MainSteps.{coded_of}
+use Rattle.sk_main_scheme.specs.Objects.{bare_of, object_of}
+use Rattle.sk_tree.specs.declared.tree.Program.{Program}
+use Rattle.sk_vector_laws.specs.Vectors.{IsRunnable}
+use Rattle.sk_world.specs.Runs.{ProgramRun}
 use Rattle.sk_cli.proofs.command.run_source.Goals as goal
 
-abbrev later : Answer
-later = refused 1 (codes "refused later\n")
+pub run_object-requires-clause-sound : goal.run_object-requires-clause-sound
+run_object-requires-clause-sound g c = c.in-Ok.ensures.runs.2.sound
 
-pub returns-in-Err-Later-clause-answered : goal.returns-in-Err-Later-clause-answered
-returns-in-Err-Later-clause-answered g c =
-    let is : IsAnswerToBytes c.args.source.now later =
-    λ contents name. (NoProgram, (c.requires, c.in-Err-Later.ensures.later (ap Err c.in-Err-Later.field-0-is)), refl) in
+pub run_object-requires-clause-vectors : goal.run_object-requires-clause-vectors
+run_object-requires-clause-vectors g c = c.in-Ok.ensures.runs.2.vectors
+
+pub returns-in-Ok-clause-answered : goal.returns-in-Ok-clause-answered
+returns-in-Ok-clause-answered g c =
+    let run : ProgramRun = coded_of c.in-Ok.object [] statement_limit false in
+    elim c.run_object.ensures.answered [
+      | inl failed ↦ inl failed
+      | inr rest ↦ elim rest [
+        | inl wanting ↦ inr (inl wanting)
+        | inr given ↦ inr (inr (ran_alone run, run-answer c.args.source.now c.in-Ok.ensures.runs.0 c.in-Ok.object c.requires c.in-Ok.ensures.runs.1 c.in-Ok.ensures.runs.2, given))
+      ]
+    ]
+
+pub returns-in-Ok-clause-cut_short : goal.returns-in-Ok-clause-cut_short
+returns-in-Ok-clause-cut_short g c failed =
+    let run : ProgramRun = coded_of c.in-Ok.object [] statement_limit false in
+    (ran_alone run, run-answer c.args.source.now c.in-Ok.ensures.runs.0 c.in-Ok.object c.requires c.in-Ok.ensures.runs.1 c.in-Ok.ensures.runs.2, ran-of_run run, c.run_object.ensures.cut_short failed)
+
+pub returns-in-Ok-clause-memory : goal.returns-in-Ok-clause-memory
+returns-in-Ok-clause-memory g c wanting command reads reads' =
+    let run : ProgramRun = coded_of c.in-Ok.object [] statement_limit false in
+    inr (ran_alone run, run-answer c.args.source.now c.in-Ok.ensures.runs.0 c.in-Ok.object c.requires c.in-Ok.ensures.runs.1 c.in-Ok.ensures.runs.2, c.run_object.ensures.memory wanting)
+
+pub returns-in-Err-clause-answered : goal.returns-in-Err-clause-answered
+returns-in-Err-clause-answered g c =
     let silent : Took [] (g.O.Sink.holds c.args.out.now) (g.O.Sink.holds c.args.out.now) = search rules in
-    inr (silent-answer (IsAnswerToBytes c.args.source.now) later c.tell.result (g.O.Sink.holds c.args.out.now)
-    (g.E.Sink.holds c.args.err.now) (g.E.Sink.holds c.tell.new.err) is refl silent c.tell.ensures.told)
+    inr (told-answer c.args.source.now c.tell_refused.result (g.O.Sink.holds c.args.out.now) (g.E.Sink.holds c.args.err.now)
+    (g.E.Sink.holds c.tell_refused.new.err) silent (reading_of c.in-Err.fault)
+    (refusal-answered c.args.source.now c.requires c.in-Err.fault c.in-Err.ensures.fault) c.tell_refused.ensures.told)
 
-pub returns-in-Err-Later-clause-memory : goal.returns-in-Err-Later-clause-memory
-returns-in-Err-Later-clause-memory g c wanting command reads reads' =
-    let is : IsAnswerToBytes c.args.source.now later =
-    λ contents name. (NoProgram, (c.requires, c.in-Err-Later.ensures.later (ap Err c.in-Err-Later.field-0-is)), refl) in
+pub returns-in-Err-clause-memory : goal.returns-in-Err-clause-memory
+returns-in-Err-clause-memory g c wanting command reads reads' =
     let silent : Took [] (g.O.Sink.holds c.args.out.now) (g.O.Sink.holds c.args.out.now) = search rules in
-    want-with command (IsAnswerToBytes c.args.source.now) reads reads' (g.O.Sink.holds c.args.out.now)
-    (g.E.Sink.holds c.args.err.now) (g.E.Sink.holds c.tell.new.err) later is refl (0, omega arith, silent) c.tell.ensures.prefix
-
-pub returns-in-Ok-run_first-clause-answered : goal.returns-in-Ok-run_first-clause-answered
-returns-in-Ok-run_first-clause-answered g c =
-    let reads : IsFirst c.args.source.now c.in-Ok.program = c.in-Ok.ensures.found in
-    let told : Told [] (g.E.Sink.holds c.args.err.now) (g.E.Sink.holds c.args.err.now) = inl (search rules) in
-    inr (inr (
-      ended_answer c.in-Ok.program,
-      answer-first c.args.source.now c.in-Ok.program c.requires reads,
-      record { status = refl; printed = c.in-Ok-run_first.ensures.printed; told = told },
-    ))
-
-pub returns-in-Err-Failed-clause-cut_short : goal.returns-in-Err-Failed-clause-cut_short
-returns-in-Err-Failed-clause-cut_short g c fault = (
-  ended_answer c.in-Ok.program,
-  answer-first c.args.source.now c.in-Ok.program c.requires c.in-Ok.ensures.found,
-  c.in-Err-Failed.ensures.prefix,
-)
-
-pub returns-in-Err-Failed-clause-memory : goal.returns-in-Err-Failed-clause-memory
-returns-in-Err-Failed-clause-memory g c wanting command reads reads' = inr (
-  ended_answer c.in-Ok.program,
-  answer-first c.args.source.now c.in-Ok.program c.requires c.in-Ok.ensures.found,
-  record {
-    printed = c.in-Err-Failed.ensures.prefix;
-    told = inr (inr (c.in-Err-Failed.ensures.rose (ap Err c.in-Err-Failed.field-0-is), c.tell_write_fault.ensures.prefix));
-  },
-)
-
-pub returns-clause-memory : goal.returns-clause-memory
-returns-clause-memory g c wanting command reads reads' = inr (
-  ended_answer c.in-Ok.program,
-  answer-first c.args.source.now c.in-Ok.program c.requires c.in-Ok.ensures.found,
-  record { printed = c.in-Err-Memory-run_first.ensures.prefix; told = inl c.tell_want-in-Err-Memory-run_first.ensures.prefix },
-)
+    told-want c.args.source.now c.tell_refused.result (g.O.Sink.holds c.args.out.now) (g.E.Sink.holds c.args.err.now)
+    (g.E.Sink.holds c.tell_refused.new.err) silent (reading_of c.in-Err.fault)
+    (refusal-answered c.args.source.now c.requires c.in-Err.fault c.in-Err.ensures.fault) c.tell_refused.ensures.prefix command reads reads'

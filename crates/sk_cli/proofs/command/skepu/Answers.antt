@@ -1,7 +1,7 @@
 -- The answer is that to the words, and where they name a file, to its bytes.
 use Rattle.std.proofs.Common.{rules, arith, ◌≡◌, ◌∙◌, ℕ, List, [], Option, refl, ap, sym, subst, map, string_bytes, codes, inl, inr, Err}
 use Rattle.sk_outside.specs.Holding.{Contents, Tells}
-use Rattle.sk_cli.specs.Answer.{Answer, Run, IsAnswer, IsAnswerToBytes, Took, asked_of, refused, run_of_file}
+use Rattle.sk_cli.specs.Answer.{Answer, HasReadFault, Run, IsAnswer, IsAnswerToBytes, Took, asked_of, refused, run_of_file}
 use Rattle.sk_cli.proofs.AnswerLemmas.{bytes-status, file-answer, part-further, silent-answer, too_long-answer, usage-answer, want-further, want-with}
 use Rattle.sk_cli.proofs.command.skepu.Goals as goal
 
@@ -97,3 +97,10 @@ returns-in-Ok-clause-memory g c wanting =
     want-further (IsAnswerToBytes c.as_slice.result.now) (IsAnswer (map string_bytes c.args.words.now) contents) goes
     (g.O.Sink.holds c.args.out.now) (g.O.Sink.holds c.run_source.new.out) asked reads reads'
     (g.E.Sink.holds c.args.err.now) (g.E.Sink.holds c.run_source.new.err) (c.run_source.ensures.memory wanting asked reads reads')
+
+pub returns-in-Err-Failed-clause-memory : goal.returns-in-Err-Failed-clause-memory
+returns-in-Err-Failed-clause-memory g c wanting =
+    let silent : Took [] (g.O.Sink.holds c.args.out.now) (g.O.Sink.holds c.args.out.now) = search rules in
+    let failed : HasReadFault (asked_of (map string_bytes c.args.words.now)) c.in-Some.name.now (g.F.Files.holds c.args.files.now).reads
+    (g.F.Files.holds c.read_all.new.self).reads = record { rose = search rules; named = search rules; given = search rules } in
+    inl (record { silent = silent; told = inr (c.in-Some.name.now, failed, c.tell_read_fault.ensures.prefix) })

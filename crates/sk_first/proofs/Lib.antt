@@ -1,4 +1,0 @@
-pub mod Matches
-pub mod Places
-pub mod Readings
-pub mod Text

@@ -1,7 +1,7 @@
 //! What is told of a text.
 use crate::objects::{held, shown};
 use crate::words::code;
-use sk_codegen::plain;
+use sk_emitter::compiled;
 use sk_isa::Code;
 use sk_lexer::tokens;
 use sk_listing::listing;
@@ -50,7 +50,7 @@ fn told(alloc: Global, question: &str, program: &Program) -> Result<String, Allo
     if question == "held" {
         return held(alloc, &compile(alloc, program)?);
     }
-    let object = plain(alloc, program)?;
+    let object = compiled(alloc, program)?;
     if question == "object" {
         return shown(alloc, &object);
     }

@@ -98,7 +98,7 @@ abbrev pub ran_alone : ProgramRun → Answer
 ran_alone = ran (run_of_file [])
 
 -- What a call does to the outside, one step after another: it answers, or it reads a file and goes on with its bytes, or it
--- finds what a source is and goes on with that. So a later file is looked at only where nothing was refused before.
+-- finds what a source is and goes on with that. So the answer hangs on a later file only where nothing was refused before.
 pub data Chain : Type 0 where
   Answers : Answer → Chain
   Reads : (name : List ℕ) → (List ℕ → Chain) → Chain

@@ -14,7 +14,7 @@ told_as End = outcome.End
 told_as (Trapped trap line element) = outcome.Trapped trap line element
 told_as Bound = outcome.Bound
 
--- the run ended as it does, the sink took all that it prints, and no put failed
+-- the run ended as it does, the sink took all that it prints, and no fault was counted
 pub record HasEnded (run : ProgramRun) (given : Outcome) (before now : SinkHolding) : Type 0 where
   pub ending : given ≡ told_as run.ending
   pub printed : Appends before.taken now.taken run.printed

@@ -7,7 +7,7 @@
 //! - `shape`: a row is sizes. `place`: sizes, `;`, and the indices of an element. `range`: two ends, and an index.
 //! - `cut`: a row is a number of indices, a number of parts, and a part. `edge`: a mode, a size, and an index.
 //! - `seed`: a row is a seed, `;`, and among how many there is to be chosen, one after another. `list`: the same of a list.
-//! - `states`: a row is a number of indices, and behind each `;` two ends and a state, or `?` for what is missing.
+//! - `states`: a row is a number of indices, and behind each `;` two ends and a state, `f` to fill, or `?` for what is missing.
 //! - `names`: a row is declarations `a=1`, look-ups `a?`, `#` for the depth, and `<1` to leave for a depth.
 //!
 //! The modules:

@@ -53,21 +53,30 @@ fn push_changed(
 ) -> Result<(), AllocError>
     requires { range.hi ≤ length states.old.states }
 {
+    if sign == "?" {
+        return push_missing(out, states, range);
+    }
+    if states.reserve(1).is_err() {
+        return out.push_str("no memory");
+    }
     match state_of(sign) {
-        Some(state) => {
-            if states.reserve(1).is_err() {
-                return out.push_str("no memory");
-            }
-            states.set(range, state);
-            push_drawn(alloc, out, states)
+        Some(state) => states.set(range, state),
+        None if sign == "f" => states.fill(range),
+        None => return out.push_str("no change"),
+    }
+    push_drawn(alloc, out, states)
+}
+
+/// Adds what is missing of a range that is there.
+fn push_missing(out: &mut String, states: &States, range: Range) -> Result<(), AllocError>
+    requires { range.hi ≤ length states.now.states }
+{
+    match states.missing(range) {
+        Some(run) => {
+            let (lo, hi) = (run.lo, run.hi);
+            write!(out, "{lo} {hi}")
         }
-        None => match states.missing(range) {
-            Some(run) => {
-                let (lo, hi) = (run.lo, run.hi);
-                write!(out, "{lo} {hi}")
-            }
-            None => out.push_str("none"),
-        },
+        None => out.push_str("none"),
     }
 }
 

@@ -7,6 +7,7 @@ use Rattle.sk_copy_states.specs.Copies.{KeepsStates, HasRoomIn, pins_in}
 pub kept-trans : (o p q : Option Held) → KeepsStates o p → KeepsStates p q → KeepsStates o q
 kept-trans o p q x y = record {
   home = y.home ∙ x.home;
+  expected = y.expected ∙ x.expected;
   fit = λ fit. y.fit (x.fit fit);
   room = omega (arith, x.room, y.room);
   states = λ i. y.states i ∙ x.states i;
@@ -16,7 +17,7 @@ kept-trans o p q x y = record {
 pub room_kept : (n : ℕ) (o p : Option Held) → KeepsStates o p → HasRoomIn n o → HasRoomIn n p
 room_kept n o None k has = tt
 room_kept n None (Some p) k has = let h = k.home in cc
-room_kept n (Some o) (Some p) k has = omega (arith, has, k.room)
+room_kept n (Some o) (Some p) k has = omega (arith, has, k.room, k.expected)
 
 pub reserved-done : (now next : ℕ → Option Held) (ids : List ℕ) (at n : ℕ) → KeepsStates (now (slice_index ids at)) (next (slice_index ids at))
     → ((q : ℕ) → q ≢ slice_index ids at → next q ≡ now q)

@@ -5,7 +5,7 @@ use Rattle.std.specs.BTreeMap.{is_at}
 use Rattle.std.specs.Map.{lookup}
 use Rattle.sk_ranges.specs.declared.state.State.{State}
 use Rattle.sk_ranges.specs.declared.state.State.TheVariants.{Stale, Valid, Owner}
-use Rattle.sk_ranges.specs.States.{SetsIn}
+use Rattle.sk_ranges.specs.States.{SetsIn, FillsIn}
 use Rattle.sk_spaces.specs.Machine.{Home}
 use Rattle.sk_spaces.specs.Blocks.{BlockView, cell_of}
 use Rattle.sk_copy_states.specs.declared.held.Held.{Held}
@@ -30,6 +30,11 @@ abbrev pub pins_in : Option Held → ℕ
 pins_in None = 0
 pins_in (Some held) = held.pins
 
+-- for how many messages a copy has room besides other changes, those in flight and those that are not sent yet
+abbrev pub expected_in : Option Held → ℕ
+expected_in None = 0
+expected_in (Some held) = held.expected
+
 -- how many changes of its states a copy has room for
 abbrev pub room_in : Option Held → ℕ
 room_in None = 0
@@ -50,11 +55,12 @@ ReachesIn copy lo hi = IfSome copy (λ held. (held.lo ≤ lo) × (hi ≤ held.hi
 abbrev pub IsReady : ℕ → Option Held → Type 0
 IsReady n copy = IfSome copy (λ held. IsFit held × HasRoom n held)
 
--- exactly these indices of the copy got this state, which took the room of one change at most; its block and its pins
--- are as before
+-- exactly these indices of the copy got this state, which took the room of one change at most; its block, its pins and its
+-- room for messages are as before
 pub record SetsAt (old new : Option Held) (lo hi : ℕ) (state : State) : Type 0 where
   pub home : home_in new ≡ home_in old
   pub pins : pins_in new ≡ pins_in old
+  pub expected : expected_in new ≡ expected_in old
   pub fit : IfSome old IsFit → IfSome new IsFit
   pub room : room_in old ≤ room_in new + 1
   pub states : SetsIn (state_in old) (state_in new) lo hi state
@@ -79,9 +85,10 @@ pub record ChangesCopy (old new : List (ℕ × Held)) (id : ℕ) (copy : Option 
 abbrev pub AreDistinct : List ℕ → Type 0
 AreDistinct ids = (j k : ℕ) → j < k → k < length ids → slice_index ids j ≢ slice_index ids k
 
--- the copy has its block and its states as before, and no less room for changes
+-- the copy has its block, its states and its room for messages as before, and no less room for changes
 pub record KeepsStates (old new : Option Held) : Type 0 where
   pub home : home_in new ≡ home_in old
+  pub expected : expected_in new ≡ expected_in old
   pub fit : IfSome old IsFit → IfSome new IsFit
   pub room : room_in old ≤ room_in new
   pub states : (i : ℕ) → state_in new i ≡ state_in old i
@@ -92,9 +99,29 @@ pub record HandsOver (old new : ℕ → Option Held) (from to lo hi : ℕ) : Typ
   pub source : SetsAt (old from) (new from) lo hi Valid
   pub others : (q : ℕ) → q ≢ to → q ≢ from → new q ≡ old q
 
--- a copy has room for so many changes, if it is there
+-- a copy has room for so many changes besides its room for messages, if it is there
 abbrev pub HasRoomIn : ℕ → Option Held → Type 0
-HasRoomIn n copy = IfSome copy (λ held. n ≤ held.states.reserved)
+HasRoomIn n copy = IfSome copy (λ held. n + held.expected ≤ held.states.reserved)
+
+-- the copy has room for so many messages more; it has its block, its states and its pins as before, and no less room for other
+-- changes
+pub record ExpectsMore (more : ℕ) (old new : Option Held) : Type 0 where
+  pub home : home_in new ≡ home_in old
+  pub pins : pins_in new ≡ pins_in old
+  pub expected : expected_in new ≡ expected_in old + more
+  pub fit : IfSome old IsFit → IfSome new IsFit
+  pub room : room_in old ≤ room_in new
+  pub states : (i : ℕ) → state_in new i ≡ state_in old i
+
+-- a message came: exactly those of these indices that were stale are valid now, which took the room of one change at most; the
+-- copy's block and its pins are as before
+pub record FillsAt (old new : Option Held) (lo hi : ℕ) : Type 0 where
+  pub home : home_in new ≡ home_in old
+  pub pins : pins_in new ≡ pins_in old
+  pub expected : expected_in new + 1 ≡ expected_in old
+  pub fit : IfSome old IsFit → IfSome new IsFit
+  pub room : room_in old ≤ room_in new + 1
+  pub states : FillsIn (state_in old) (state_in new) lo hi
 
 -- a copy of the store lies so, with all of its block among the indices lo ≤ i < hi
 abbrev pub LiesAmong : ℕ → ℕ → ℕ → Option Home → Type 0

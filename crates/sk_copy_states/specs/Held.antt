@@ -29,19 +29,21 @@ home_of held = record { store = held.store; space = held.space; lo = held.lo; hi
 abbrev pub HasRoom : ℕ → Held → Type 0
 HasRoom n held = n ≤ held.states.reserved
 
--- the same block, pinned as often as before
+-- the same block, pinned as often as before, with room for as many messages
 pub record SameBlock (old new : Held) : Type 0 where
   pub store : new.store ≡ old.store
   pub space : new.space ≡ old.space
   pub lo : new.lo ≡ old.lo
   pub hi : new.hi ≡ old.hi
   pub pins : new.pins ≡ old.pins
+  pub expected : new.expected ≡ old.expected
   pub states : length new.states.states ≡ length old.states.states
 
 -- a new copy of these indices: all stale, not pinned, and with room for so many changes
 pub record IsFresh (store space lo hi room : ℕ) (held : Held) : Type 0 where
   pub home : home_of held ≡ record { store = store; space = space; lo = lo; hi = hi }
   pub pins : held.pins ≡ 0
+  pub expected : held.expected ≡ 0
   pub fit : IsFit held
   pub stale : (i : ℕ) → state_of held i ≡ Stale
   pub ready : room ≤ held.states.reserved

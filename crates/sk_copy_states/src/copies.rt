@@ -1,10 +1,10 @@
 //! Copies by number.
 ghost use Rattle.std.specs.Prelude.{◌≡◌, ◌≢◌, ℕ, ◌+◌, ◌-◌, ◌<◌, ◌≤◌, ◌^◌, length, slice_index, IfSome, IfNone, IsSome, IsTrue, ◌↔◌, Some, None, OnOk, OnErr};
 ghost use Rattle.sk_copy_states.specs.Held.{IsFit, HasRoom};
-ghost use Rattle.sk_copy_states.specs.Copies.{HasRoomIn};
-ghost use Rattle.sk_copy_states.specs.Copies.{held_in, home_in, pins_in, SetsAt, OwnsAlone, StalesAll, HandsOver, ReachesIn, IsReady, store_in, ChangesCopy, AreDistinct, KeepsStates, LiesAmong};
+ghost use Rattle.sk_copy_states.specs.Copies.{HasRoomIn, ExpectsMore, FillsAt};
+ghost use Rattle.sk_copy_states.specs.Copies.{held_in, home_in, pins_in, expected_in, SetsAt, OwnsAlone, StalesAll, HandsOver, ReachesIn, IsReady, store_in, ChangesCopy, AreDistinct, KeepsStates, LiesAmong};
 
-use crate::held::{Held, set_state};
+use crate::held::{Held, fill_state, set_state};
 use sk_base::Range;
 use sk_ranges::State;
 use sk_spaces::Memory;
@@ -121,9 +121,9 @@ pub fn pin(copies: &mut BTreeMap<u64, Held>, id: u64) -> Result<(), Memory>
     Ok(())
 }
 
-/// Makes room for so many changes of a copy's states.
+/// Makes room for so many changes of a copy's states, besides the room for messages.
 pub fn reserve_one(copies: &mut BTreeMap<u64, Held>, id: u64, n: u32) -> Result<(), Memory>
-    ensures ok { OnOk result (IfSome (held_in copies.new.entries id) (λ held. n ≤ held.states.reserved)) }
+    ensures ok { OnOk result (HasRoomIn n (held_in copies.new.entries id)) }
     ensures err { OnErr result ((q : ℕ) → held_in copies.new.entries q ≡ held_in copies.old.entries q) }
     ensures home { home_in (held_in copies.new.entries id) ≡ home_in (held_in copies.old.entries id) }
     ensures pins { pins_in (held_in copies.new.entries id) ≡ pins_in (held_in copies.old.entries id) }
@@ -131,14 +131,52 @@ pub fn reserve_one(copies: &mut BTreeMap<u64, Held>, id: u64, n: u32) -> Result<
     ensures states { KeepsStates (held_in copies.old.entries id) (held_in copies.new.entries id) }
 {
     if let Some(held) = copies.get_mut(&id) {
-        if held.states.reserve(n).is_err() {
+        let Some(room) = n.checked_add(held.expected) else {
+            return Err(Memory);
+        };
+        if held.states.reserve(room).is_err() {
             return Err(Memory);
         }
     }
     Ok(())
 }
 
-/// Makes room for so many changes in each of the listed copies.
+/// Makes room for one message more to a copy, besides so many other changes of its states.
+pub fn expect_one(copies: &mut BTreeMap<u64, Held>, id: u64, n: u32) -> Result<(), Memory>
+    requires there { IsSome (held_in copies.old.entries id) }
+    ensures ok { OnOk result (ExpectsMore 1 (held_in copies.old.entries id) (held_in copies.new.entries id)) }
+    ensures room { OnOk result (HasRoomIn n (held_in copies.new.entries id)) }
+    ensures err { OnErr result ((q : ℕ) → held_in copies.new.entries q ≡ held_in copies.old.entries q) }
+    ensures others { (q : ℕ) → q ≢ id → held_in copies.new.entries q ≡ held_in copies.old.entries q }
+{
+    if let Some(held) = copies.get_mut(&id) {
+        let expected = held.expected.checked_add(1).ok_or(Memory)?;
+        let room = n.checked_add(expected).ok_or(Memory)?;
+        if held.states.reserve(room).is_err() {
+            return Err(Memory);
+        }
+        held.expected = expected;
+    }
+    Ok(())
+}
+
+/// A message comes to a copy: what is stale of a range of its block is valid now, and its room is used up. It takes no
+/// memory.
+pub fn fill_one(copies: &mut BTreeMap<u64, Held>, id: u64, range: Range)
+    requires there { IsSome (held_in copies.old.entries id) }
+    requires ready { IsReady 1 (held_in copies.old.entries id) }
+    requires reaches { ReachesIn (held_in copies.old.entries id) range.lo range.hi }
+    requires expected { 0 < expected_in (held_in copies.old.entries id) }
+    ensures filled { FillsAt (held_in copies.old.entries id) (held_in copies.new.entries id) range.lo range.hi }
+    ensures others { (q : ℕ) → q ≢ id → held_in copies.new.entries q ≡ held_in copies.old.entries q }
+{
+    if let Some(held) = copies.get_mut(&id) {
+        fill_state(held, range);
+        held.expected -= 1;
+    }
+}
+
+/// Makes room for so many changes in each of the listed copies, besides the room for messages.
 pub fn reserve_listed(copies: &mut BTreeMap<u64, Held>, ids: &[u64], n: u32) -> Result<(), Memory>
     ensures ok { OnOk result ((k : ℕ) → k < length ids.now → HasRoomIn n (held_in copies.new.entries (slice_index ids.now k))) }
     ensures states { (q : ℕ) → KeepsStates (held_in copies.old.entries q) (held_in copies.new.entries q) }
@@ -151,7 +189,7 @@ pub fn reserve_listed(copies: &mut BTreeMap<u64, Held>, ids: &[u64], n: u32) -> 
 }
 
 /// A copy becomes the owner of indices that another one owned, which keeps them valid. Each has room for one change less
-/// than `room` at least.
+/// than `room` at least, besides the room for messages.
 pub fn hand_over(
     copies: &mut BTreeMap<u64, Held>,
     from: u64,
@@ -168,8 +206,8 @@ pub fn hand_over(
     requires source_reaches { ReachesIn (held_in copies.old.entries from) range.lo range.hi }
     requires target_reaches { ReachesIn (held_in copies.old.entries to) range.lo range.hi }
     ensures ok { OnOk result (HandsOver (held_in copies.old.entries) (held_in copies.new.entries) from to range.lo range.hi) }
-    ensures source_left { OnOk result (IfSome (held_in copies.new.entries from) (λ held. room ≤ held.states.reserved + 1)) }
-    ensures target_left { OnOk result (IfSome (held_in copies.new.entries to) (λ held. room ≤ held.states.reserved + 1)) }
+    ensures source_left { OnOk result (IfSome (held_in copies.new.entries from) (λ held. room + held.expected ≤ held.states.reserved + 1)) }
+    ensures target_left { OnOk result (IfSome (held_in copies.new.entries to) (λ held. room + held.expected ≤ held.states.reserved + 1)) }
     ensures err { OnErr result ((q : ℕ) → KeepsStates (held_in copies.old.entries q) (held_in copies.new.entries q)) }
     ensures pins { OnErr result ((q : ℕ) → pins_in (held_in copies.new.entries q) ≡ pins_in (held_in copies.old.entries q)) }
 {

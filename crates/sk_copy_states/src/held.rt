@@ -1,6 +1,6 @@
 //! One copy of a block of a store.
 ghost use Rattle.std.specs.Prelude.{◌≡◌, ◌≢◌, ℕ, ◌+◌, ◌-◌, ◌<◌, ◌≤◌, true, false, length, IfOk, IfSome, IfNone};
-ghost use Rattle.sk_ranges.specs.States.{SetsIn};
+ghost use Rattle.sk_ranges.specs.States.{SetsIn, FillsIn};
 ghost use Rattle.sk_copy_states.specs.Held.{IsFit, HasRoom, SameBlock, IsFresh, state_of};
 ghost use Rattle.sk_copy_states.specs.declared.held.Held.{Held};
 
@@ -9,8 +9,8 @@ use sk_ranges::{State, States};
 use sk_spaces::Memory;
 use std::alloc::Global;
 
-/// A copy of a block of a store: which of its indices it has, and how often it is pinned. Its cells are in the block of
-/// the same number.
+/// A copy of a block of a store: which of its indices it has, how often it is pinned, and for how many messages to it there is
+/// room. Its cells are in the block of the same number.
 #[derive(Drop)]
 pub struct Held {
     pub store: u64,
@@ -19,6 +19,7 @@ pub struct Held {
     pub hi: u32,
     pub states: States,
     pub pins: u32,
+    pub expected: u32,
 }
 
 /// A copy of a block, all stale and not pinned, with room for so many changes of its states.
@@ -38,6 +39,7 @@ pub fn fresh(alloc: Global, store: u64, space: u32, block: Range, room: u32) -> 
         hi: block.hi,
         states,
         pins: 0,
+        expected: 0,
     })
 }
 
@@ -64,6 +66,24 @@ pub fn set_state(held: &mut Held, range: Range, state: State)
             },
             state,
         );
+    }
+}
+
+/// Makes valid what is stale of a range of the block.
+pub fn fill_state(held: &mut Held, range: Range)
+    requires fit { IsFit held.old }
+    requires room { HasRoom 1 held.old }
+    requires above { held.old.lo ≤ range.lo }
+    requires below { range.hi ≤ held.old.hi }
+    ensures block { SameBlock held.old held.new }
+    ensures room { held.old.states.reserved ≤ held.new.states.reserved + 1 }
+    ensures fills { FillsIn (state_of held.old) (state_of held.new) range.lo range.hi }
+{
+    if !range.is_empty() {
+        held.states.fill(Range {
+            lo: range.lo - held.lo,
+            hi: range.hi - held.lo,
+        });
     }
 }
 

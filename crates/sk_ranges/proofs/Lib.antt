@@ -3,4 +3,5 @@ pub mod SideLemmas
 pub mod StateLemmas
 pub mod VecLemmas
 pub mod ReadLemmas
+pub mod FillLemmas
 pub mod ViewLemmas

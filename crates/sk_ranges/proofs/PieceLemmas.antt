@@ -1,5 +1,5 @@
 -- Lists of pieces that are joined, cut and read at an index.
-use Rattle.std.proofs.Common.{◌≡◌, ℕ, suc, zero, ◌-◌, ◌<◌, ◌≤◌, List, [], ◌∷◌, ◌++◌, Option, Some, ⊎_elim, cond, get_or, length, take, refl, sym, ap, ◌∙◌, arith}
+use Rattle.std.proofs.Common.{◌≡◌, ℕ, suc, zero, ◌-◌, ◌<◌, ◌≤◌, List, [], ◌∷◌, ◌++◌, Option, Some, None, ⊎_elim, cond, get_or, length, take, refl, sym, ap, ◌∙◌, arith}
 use Rattle.std.proofs.lemmas.Bool.{cases_lt, lt-ltb, le-ltb}
 use Rattle.std.proofs.lemmas.List.{take_all}
 use Rattle.sk_ranges.specs.declared.state.State.{State}
@@ -90,3 +90,7 @@ end_of-last [] d h = absurd (omega arith)
 end_of-last (p ∷ ps) d h =
     let last : length (p ∷ ps) - 1 ≡ length ps = omega arith in
     rw last (sym (end_of-take 0 (p ∷ ps) (length ps) d (omega arith)) ∙ ap (end_of 0) (take_all (suc (length ps)) (p ∷ ps) (omega arith)))
+
+-- no piece ends behind the last one
+pub ends_within : (ps : List Piece) (k : ℕ) (d : Piece) → AreTidy 0 None ps → k < length ps → (get_or ps k d).end ≤ end_of 0 ps
+ends_within ps k d t h = omega (arith, ends_rise 0 None ps k (length ps - 1) d t (omega arith) (omega arith), end_of-last ps d (omega arith))

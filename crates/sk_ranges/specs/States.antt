@@ -1,7 +1,7 @@
 -- The states of the indices of one copy, by index.
 use Rattle.std.specs.Prelude.{◌≡◌, ◌≢◌, ℕ, ◌<◌, ◌≤◌, List, slice_index_or}
 use Rattle.sk_ranges.specs.declared.state.State.{State}
-use Rattle.sk_ranges.specs.declared.state.State.TheVariants.{Stale}
+use Rattle.sk_ranges.specs.declared.state.State.TheVariants.{Stale, Valid, Owner}
 
 -- the state of each index, and how many changes of a range have their memory already
 pub record StatesView : Type 0 where
@@ -16,6 +16,18 @@ state_at states i = slice_index_or states i Stale
 pub record SetsIn (old new : ℕ → State) (lo hi : ℕ) (state : State) : Type 0 where
   pub before : (i : ℕ) → i < lo → new i ≡ old i
   pub inside : (i : ℕ) → lo ≤ i → i < hi → new i ≡ state
+  pub after : (i : ℕ) → hi ≤ i → new i ≡ old i
+
+-- the state of an index that is filled if it is stale
+abbrev pub filled : State → State
+filled Stale = Valid
+filled Valid = Valid
+filled Owner = Owner
+
+-- each index lo ≤ i < hi that was stale is valid now; every other index keeps its state
+pub record FillsIn (old new : ℕ → State) (lo hi : ℕ) : Type 0 where
+  pub before : (i : ℕ) → i < lo → new i ≡ old i
+  pub inside : (i : ℕ) → lo ≤ i → i < hi → new i ≡ filled (old i)
   pub after : (i : ℕ) → hi ≤ i → new i ≡ old i
 
 -- lo ≤ i < to is the longest run of this state that begins at lo and ends at hi or before

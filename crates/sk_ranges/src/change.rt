@@ -1,6 +1,6 @@
-ghost use Rattle.std.specs.Prelude.{◌≡◌, ℕ, ◌+◌, ◌<◌, ◌≤◌, ◌∷◌, ◌++◌, List, length, take, drop, None, slice_index_or, option_to_list, vec_len, vec_capacity};
+ghost use Rattle.std.specs.Prelude.{◌≡◌, ℕ, ◌+◌, ◌<◌, ◌≤◌, ◌∷◌, ◌++◌, List, length, take, drop, None, IfNone, slice_index_or, option_to_list, vec_len, vec_capacity};
 ghost use Rattle.sk_ranges.specs.Pieces.{AreTidy, end_of, state_of};
-ghost use Rattle.sk_ranges.specs.Sides.{IsLeft, IsRight, pieces_before, pieces_after};
+ghost use Rattle.sk_ranges.specs.Sides.{IsFilled, IsLeft, IsRight, pieces_before, pieces_after};
 ghost use Rattle.sk_ranges.specs.States.{SetsIn};
 ghost use Rattle.sk_ranges.specs.declared.pieces.Piece.{Piece};
 
@@ -11,9 +11,9 @@ use sk_base::Range;
 /// What is on one side when a range gets a state: the pieces before `place`, or those from `place` on, and a piece that
 /// comes between them and the other side.
 #[derive(Clone, Copy)]
-struct Side {
-    place: usize,
-    piece: Option<Piece>,
+pub struct Side {
+    pub place: usize,
+    pub piece: Option<Piece>,
 }
 
 /// The pieces from `from` up to but not including `to`, which are being replaced.
@@ -21,6 +21,50 @@ struct Side {
 struct Gap {
     from: usize,
     to: usize,
+}
+
+/// The pieces before an index, the last of them beside the place.
+pub fn before(pieces: &[Piece], lo: u32) -> Side
+    requires tidy { AreTidy 0 None pieces.now }
+    requires inside { lo ≤ end_of 0 pieces.now }
+    ensures within { result.place ≤ length pieces.now }
+    ensures below { end_of 0 (take result.place pieces.now) ≤ lo }
+    ensures empty { IfNone result.piece (result.place ≡ 0) }
+    ensures before { IsFilled pieces.now lo lo (pieces_before pieces.now result) }
+{
+    if lo == 0 {
+        return Side {
+            place: 0,
+            piece: None,
+        };
+    }
+    let at = place(pieces, lo - 1);
+    Side {
+        place: at,
+        piece: Some(Piece {
+            end: lo,
+            state: pieces[at].state,
+        }),
+    }
+}
+
+/// What of a left side stays before a run of the state: a last piece of that state belongs to the run.
+pub fn without(side: Side, state: State) -> Side
+    requires { IfNone side.piece (side.place ≡ 0) }
+    ensures place { result.place ≡ side.place }
+    ensures left { (pieces : List Piece) → AreTidy 0 None (pieces_before pieces side) →
+        IsLeft (pieces_before pieces side) (end_of 0 (pieces_before pieces side)) state (pieces_before pieces result) }
+{
+    let Some(last) = side.piece else {
+        return side;
+    };
+    if last.state == state {
+        return Side {
+            place: side.place,
+            piece: None,
+        };
+    }
+    side
 }
 
 /// What stays before a range that begins at `lo` and gets the state.
@@ -31,31 +75,12 @@ fn left_of(pieces: &[Piece], lo: u32, state: State) -> Side
     ensures below { end_of 0 (take result.place pieces.now) ≤ lo }
     ensures left { IsLeft pieces.now lo state (pieces_before pieces.now result) }
 {
-    if lo == 0 {
-        return Side {
-            place: 0,
-            piece: None,
-        };
-    }
-    let at = place(pieces, lo - 1);
-    let piece = pieces[at];
-    if piece.state == state {
-        return Side {
-            place: at,
-            piece: None,
-        };
-    }
-    Side {
-        place: at,
-        piece: Some(Piece {
-            end: lo,
-            state: piece.state,
-        }),
-    }
+    let side = before(pieces, lo);
+    without(side, state)
 }
 
 /// What stays behind a range that ends at `hi` and gets the state; a piece beside it is the range's own.
-fn right_of(pieces: &[Piece], hi: u32, state: State) -> Side
+pub fn right_of(pieces: &[Piece], hi: u32, state: State) -> Side
     requires tidy { AreTidy 0 None pieces.now }
     requires inside { hi ≤ end_of 0 pieces.now }
     ensures within { result.place ≤ length pieces.now }
@@ -120,7 +145,7 @@ fn insert_both(pieces: &mut Vec<Piece>, place: usize, first: Piece, second: Piec
 }
 
 /// Replaces the pieces between two places by the pieces beside them, with at most one move of the pieces behind.
-fn replace(pieces: &mut Vec<Piece>, left: Side, right: Side)
+pub fn replace(pieces: &mut Vec<Piece>, left: Side, right: Side)
     requires ordered { left.place ≤ right.place }
     requires inside { right.place ≤ vec_len pieces.old }
     requires room { vec_len pieces.old + 2 ≤ vec_capacity pieces.old }

@@ -3,10 +3,12 @@
 //! - `state`: the three states of an index.
 //! - `pieces`: sorted pieces of equal state, and what they say of an index.
 //! - `change`: a range of them is given one state.
+//! - `filling`: what is stale in a range of them becomes valid.
 //! - `states`: the states of all indices of a copy.
 #![tactic(auto)]
 
 mod change;
+mod filling;
 mod pieces;
 mod state;
 mod states;

@@ -1,9 +1,9 @@
 ghost use Rattle.std.specs.Prelude.{◌≡◌, ℕ, ◌+◌, ◌<◌, ◌≤◌, length, replicate, IsTrue, ◌↔◌, IsOk, IfOk, OnOk, OnErr, IfNone, IfSome};
-ghost use Rattle.sk_ranges.specs.States.{state_at, SetsIn, IsRun, IsFirstMissing, NoneMissing};
+ghost use Rattle.sk_ranges.specs.States.{state_at, SetsIn, FillsIn, IsRun, IsFirstMissing, NoneMissing};
 
-use crate::change;
 use crate::pieces::{self, Piece, Run};
 use crate::state::State;
+use crate::{change, filling};
 use sk_base::Range;
 use std::alloc::{AllocError, Global};
 use std::marker::Model;
@@ -71,7 +71,8 @@ impl States {
         self.len() == 0
     }
 
-    /// Makes room for so many calls of `set`; room that is there already counts. Want of memory leaves all as it was.
+    /// Makes room for so many calls of `set` or `fill`; room that is there already counts. Want of memory leaves all as it
+    /// was.
     pub fn reserve(&mut self, n: u32) -> Result<(), Memory>
         ensures states { self.new.states ≡ self.old.states }
         ensures ok { OnOk result (n ≤ self.new.reserved) }
@@ -94,6 +95,20 @@ impl States {
     {
         if !range.is_empty() {
             change::set(&mut self.pieces, range, state);
+        }
+    }
+
+    /// Makes each stale index of a range valid. It takes the room of one change, and no memory. The cost is binary
+    /// searches among the runs, those that the range meets, and one move of those behind it.
+    pub fn fill(&mut self, range: Range)
+        requires inside { range.hi ≤ length self.old.states }
+        requires reserved { 0 < self.old.reserved }
+        ensures len { length self.new.states ≡ length self.old.states }
+        ensures fills { FillsIn (state_at self.old.states) (state_at self.new.states) range.lo range.hi }
+        ensures reserved { self.old.reserved ≤ self.new.reserved + 1 }
+    {
+        if !range.is_empty() {
+            filling::fill(&mut self.pieces, range);
         }
     }
 

@@ -70,6 +70,8 @@ module _ (d n : DirectoryView) (id s : ℕ) (st now : StoreView) (sound : IsSoun
     next = f.next;
     owed = f.owed;
     named = f.named;
+    messages = f.messages;
+    aside = f.aside;
     next_copy = omega (arith, f.memories.next);
     ranks = f.memories.ranks;
     capacity = f.memories.capacity;

@@ -1,5 +1,5 @@
 -- Messages that are left to do, found one after another.
-use Rattle.std.proofs.Common.{◌≡◌, ◌≢◌, ℕ, ◌+◌, ◌<◌, ◌≤◌, List, [], ◌∷◌, ◌++◌, Option, Some, None, IfSome, IsSome, option_to_list, not, ◌==◌, false, arith, ⊎_elim, refl, inl, inr, sym, subst, ◌∙◌, ap, ◌⊎◌}
+use Rattle.std.proofs.Common.{◌≡◌, ◌≢◌, ℕ, ◌+◌, ◌<◌, ◌≤◌, List, [], ◌∷◌, ◌++◌, Option, Some, None, IfSome, IfNone, IsSome, option_to_list, not, ◌==◌, false, arith, ⊎_elim, refl, inl, inr, sym, subst, ◌∙◌, ap, ◌⊎◌}
 use Rattle.std.proofs.lemmas.Bool.{cases_lt}
 use Rattle.sk_ranges.specs.declared.state.State.TheVariants.{Stale}
 use Rattle.sk_spaces.specs.declared.step.Step.{Step}
@@ -8,8 +8,9 @@ use Rattle.sk_spaces.specs.Machine.{Machine, Home, CopyState, live}
 use Rattle.sk_copies.specs.declared.Transfer.{Transfer}
 use Rattle.sk_copy_states.specs.declared.held.Held.{Held}
 use Rattle.sk_copy_states.specs.Copies.{KeepsStates, ReachesIn, home_in, home_store, store_in, state_in}
-use Rattle.sk_copy_states.specs.Sources.{LiesIn, MayRead}
-use Rattle.sk_coherence_laws.specs.Directory.{DirectoryView, copy_at, IsSound}
+use Rattle.sk_copy_states.specs.Sources.{LiesIn, MayRead, NoneNear}
+use Rattle.sk_copy_states.specs.Stores.{copies_in}
+use Rattle.sk_coherence_laws.specs.Directory.{DirectoryView, copy_at, store_at, IsSound}
 use Rattle.sk_coherence_laws.specs.Moves.{CanMove, Fills, Idles, IsStaleAt}
 use Rattle.sk_coherence_laws.specs.Serves.{GrowsAt}
 use Rattle.sk_coherence_laws.specs.Acquires.{PinsOne}
@@ -22,10 +23,11 @@ use Rattle.sk_coherence_laws.proofs.ServesLemmas.{grows-trans}
 use Rattle.sk_coherence_laws.proofs.KeptLemmas.{keeps_all}
 use Rattle.sk_coherence_laws.proofs.SourceLemmas.{readable_there}
 use Rattle.sk_coherence_laws.proofs.AcquireLemmas.{home_there, reaches_home}
-use Rattle.sk_coherence.specs.Evicts.{IsFar, IsIn, IsOnHost}
-use Rattle.sk_coherence.specs.Later.{IsToSend, AreLeft, IsLooked, IsMade, IsClose, IsFillNear, IsLater}
+use Rattle.sk_coherence.specs.Evicts.{IsFar, IsIn, IsOnHost, KeepsFar, MakesOnHost}
+use Rattle.sk_coherence.specs.Later.{LieTogether, IsAlone, IsToSend, AreLeft, IsLooked, IsMade, IsClose, IsFillNear, IsLater, IsDueLater}
+use Rattle.sk_coherence.specs.Room.{IsYielding}
 use Rattle.sk_coherence.proofs.RetreatLemmas.{reaches_on, spaces_apart, stands_in}
-use Rattle.sk_coherence.proofs.StepKinds.{alloc-due, fill-due, near-fill}
+use Rattle.sk_coherence.proofs.StepKinds.{alloc-yielding, fill-due, near-fill, yielding-due}
 
 -- a copy that is not filled keeps its states
 pub kept-fill : (a b n : DirectoryView) (from to lo hi q : ℕ) → Idles a b → Fills b n from to lo hi → q ≢ to → KeepsStates (copy_at a q) (copy_at n q)
@@ -34,13 +36,93 @@ kept-fill a b n from to lo hi q i f ne = subst (λ (o : Option Held). KeepsState
 pub before-fill : (a b n : DirectoryView) (from to lo hi i : ℕ) → Idles a b → Fills b n from to lo hi → i < lo → state_in (copy_at n to) i ≡ state_in (copy_at a to) i
 before-fill a b n from to lo hi i idle f below = f.target.states.before i below ∙ (idle.copies to).states i
 
+-- copies that lie where they did lie in one space still
+together-on : (o p x y : Option Held) → home_in x ≡ home_in o → home_in y ≡ home_in p → LieTogether x y → LieTogether o p
+together-on o p x y one other t = (
+  t.0,
+  subst (λ (h : Option Home). IfSome h (λ home. home.space ≡ t.0)) one t.1,
+  subst (λ (h : Option Home). IfSome h (λ home. home.space ≡ t.0)) other t.2,
+)
+
+-- what lies in one space with a copy on a rank lies on a rank
+far-together : (o p : Option Held) → IsSome p → IsFar p → LieTogether o p → IsFar o
+far-together None p there far t = tt
+far-together (Some o) None there far t = cc
+far-together (Some o) (Some p) there far t = omega (arith, far, t.1, t.2)
+
+-- and so it does not lie on the host
+stale-together : (o p : Option Held) (i : ℕ) → IsOnHost o → IsSome p → IsFar p → LieTogether o p → state_in o i ≡ Stale
+stale-together None p i host there far t = refl
+stale-together (Some o) None i host there far t = cc
+stale-together (Some o) (Some p) i host there far t = absurd (omega (arith, host, far, t.1, t.2))
+
+-- a copy that keeps its states, beside one that lies where it did
+alone-kept : (a b : DirectoryView) (copy q lo hi : ℕ) → KeepsStates (copy_at a q) (copy_at b q) → home_in (copy_at b copy) ≡ home_in (copy_at a copy)
+    → IsAlone a copy lo hi → q ≢ copy → store_in (copy_at b q) ≡ store_in (copy_at b copy) → LieTogether (copy_at b q) (copy_at b copy) → IsStaleAt b q lo hi
+alone-kept a b copy q lo hi k home alone ne store t i above below =
+    k.states i
+    ∙ alone q ne (ap home_store (sym k.home) ∙ store ∙ ap home_store home) (together-on (copy_at a q) (copy_at a copy) (copy_at b q) (copy_at b copy) k.home home t) i above below
+
+-- other copies on ranks keep their states, and copies that are made meanwhile lie on the host
+module _ (a b : DirectoryView) (copy : ℕ) (there : IsSome (copy_at a copy)) (far : IsFar (copy_at a copy))
+    (homes : (q : ℕ) → IsSome (copy_at a q) → home_in (copy_at b q) ≡ home_in (copy_at a q)) (kept : KeepsFar a b copy) (made : MakesOnHost a b) where
+  there_on : IsSome (copy_at b copy)
+  there_on = some_home (copy_at a copy) (copy_at b copy) (sym (homes copy there)) there
+
+  far_on : IsFar (copy_at b copy)
+  far_on = subst (λ (h : Option Home). IfSome h (λ home. 0 < home.space)) (sym (homes copy there)) far
+
+  kept_of : (q : ℕ) → q ≢ copy → IsSome (copy_at a q) → LieTogether (copy_at b q) (copy_at b copy) → KeepsStates (copy_at a q) (copy_at b q)
+  kept_of q ne some t = kept q ne some
+      (subst (λ (h : Option Home). IfSome h (λ home. 0 < home.space)) (homes q some) (far-together (copy_at b q) (copy_at b copy) there_on far_on t))
+
+  alone-of : (lo hi q : ℕ) (o : Option Held) → copy_at a q ≡ o → IsAlone a copy lo hi → q ≢ copy → store_in (copy_at b q) ≡ store_in (copy_at b copy)
+      → LieTogether (copy_at b q) (copy_at b copy) → IsStaleAt b q lo hi
+  alone-of lo hi q None is alone ne store t i above below = stale-together (copy_at b q) (copy_at b copy) i (made q is) there_on far_on t
+  alone-of lo hi q (Some held) is alone ne store t i above below =
+      alone-kept a b copy q lo hi (kept_of q ne (subst (λ (o : Option Held). IsSome o) (sym is) refl) t) (homes copy there) alone ne store t i above below
+
+  pub alone-on : (lo hi : ℕ) → IsAlone a copy lo hi → IsAlone b copy lo hi
+  alone-on lo hi alone q = alone-of lo hi q (copy_at a q) refl alone
+
+pub alone-less : (d : DirectoryView) (copy lo less hi : ℕ) → less ≤ hi → IsAlone d copy lo hi → IsAlone d copy lo less
+alone-less d copy lo less hi within alone q ne store t i above below = alone q ne store t i above (omega (arith, below, within))
+
+-- copies that were not there, and lie as they did, were not made
+pub made-grows : (a b : DirectoryView) → ((q : ℕ) → GrowsAt a b q) → MakesOnHost a b
+made-grows a b grows q none = subst (λ (h : Option Home). IfSome h (λ home. home.space ≡ 0)) (sym ((grows q).home ∙ ap home_in none)) tt
+
+pub made-then : (a b n : DirectoryView) → MakesOnHost a b → ((q : ℕ) → GrowsAt b n q) → MakesOnHost a n
+made-then a b n made grows q none = subst (λ (h : Option Home). IfSome h (λ home. home.space ≡ 0)) (sym (grows q).home) (made q none)
+
+pub made-none : (a : DirectoryView) → MakesOnHost a a
+made-none a q none = subst IsOnHost (sym none) tt
+
+lies_with : (o p : Option Held) (s space : ℕ) → store_in o ≡ Some s → IsSome p → IsIn space p → LieTogether o p → LiesIn space o
+lies_with None p s space store there mine t = cc
+lies_with (Some o) None s space store there mine t = cc
+lies_with (Some o) (Some p) s space store there mine t = t.1 ∙ sym t.2 ∙ mine
+
+-- where no listed copy of the space may be read
+pub alone-near : (d : DirectoryView) (s space to lo hi : ℕ) → IsSound d → store_in (copy_at d to) ≡ Some s → IsSome (copy_at d to) → IsIn space (copy_at d to)
+    → NoneNear (copy_at d) (copies_in (store_at d s)) space lo hi → IsAlone d to lo hi
+alone-near d s space to lo hi sound home there mine none q ne store t i above below =
+    let k = sound.complete s q (store ∙ home) in
+    let lies : LiesIn space (copy_at d q) = lies_with (copy_at d q) (copy_at d to) s space (store ∙ home) there mine t in
+    subst (λ (x : ℕ). state_in (copy_at d x) i ≡ Stale) k.2 (none k.0 k.1 (subst (λ (x : ℕ). LiesIn space (copy_at d x)) (sym k.2) lies) i above below)
+
+pub if-none-map : {A : Type 0} (o : Option A) (P Q : Type 0) → (P → Q) → IfNone o P → IfNone o Q
+if-none-map None P Q more is = more is
+if-none-map (Some x) P Q more is = tt
+
 reaches_grown : (o p : Option Held) (lo hi : ℕ) → home_in p ≡ home_in o → ReachesIn o lo hi → ReachesIn p lo hi
 reaches_grown o p lo hi same is = reaches_on o p lo hi hi same (omega arith) is
 
 -- copies lie where they did, and what might be read in them may be read still; states below an index are as before in one of them
 module _ (a b : DirectoryView) (copy mid : ℕ) (homes : (q : ℕ) → IsSome (copy_at a q) → home_in (copy_at b q) ≡ home_in (copy_at a q))
     (reads : (q i : ℕ) → state_in (copy_at a q) i ≢ Stale → state_in (copy_at b q) i ≢ Stale)
-    (same : (i : ℕ) → i < mid → state_in (copy_at b copy) i ≡ state_in (copy_at a copy) i) where
+    (same : (i : ℕ) → i < mid → state_in (copy_at b copy) i ≡ state_in (copy_at a copy) i)
+    (beside : (lo hi : ℕ) → IsAlone a copy lo hi → IsAlone b copy lo hi) where
   read-on : (lo hi : ℕ) → hi ≤ mid → MayRead (copy_at a copy) lo hi → MayRead (copy_at b copy) lo hi
   read-on lo hi below r i above under e = r i above under (sym (same i (omega (arith, under, below))) ∙ e)
 
@@ -62,6 +144,7 @@ module _ (a b : DirectoryView) (copy mid : ℕ) (homes : (q : ℕ) → IsSome (c
     some = s.some;
     can = can-still t.from.id copy t.range.lo t.range.hi s.can;
     stale = λ i above under. same i (omega (arith, under, below)) ∙ s.stale i above under;
+    alone = beside t.range.lo t.range.hi s.alone;
   }
 
   -- what was left before is left still
@@ -109,15 +192,18 @@ looked-bounds d copy lo end hi (Some t) is = (omega (arith, is.1, is.2, is.0.som
 
 -- what was left before a step is left after it, and what was looked at in it is added
 pub left-step : (a b : DirectoryView) (copy lo mid end hi : ℕ) (ts : List Transfer) (t : Option Transfer) → ((q : ℕ) → IsSome (copy_at a q) → GrowsAt a b q)
-    → ((i : ℕ) → i < mid → state_in (copy_at b copy) i ≡ state_in (copy_at a copy) i) → lo ≤ mid → AreLeft a copy lo mid ts → IsLooked b copy mid end hi t
+    → ((i : ℕ) → i < mid → state_in (copy_at b copy) i ≡ state_in (copy_at a copy) i) → IsSome (copy_at a copy) → IsFar (copy_at a copy) → KeepsFar a b copy → MakesOnHost a b
+    → lo ≤ mid → AreLeft a copy lo mid ts → IsLooked b copy mid end hi t
     → AreLeft b copy lo hi (ts ++ option_to_list t)
-left-step a b copy lo mid end hi ts t grows same from l is = left-more b copy lo mid end hi ts t from
-    (left-on a b copy mid (λ q some. (grows q some).home) (λ q i r. (grows q (readable_there (copy_at a q) i r)).readable i r) same lo mid ts (omega arith) l) is
+left-step a b copy lo mid end hi ts t grows same there far kept made from l is = left-more b copy lo mid end hi ts t from
+    (left-on a b copy mid (λ q some. (grows q some).home) (λ q i r. (grows q (readable_there (copy_at a q) i r)).readable i r) same
+    (alone-on a b copy there far (λ q some. (grows q some).home) kept made) lo mid ts (omega arith) l) is
 
 keeps_pinned : (o p : Option Held) → IsSome o → IfSome o (λ held. p ≡ Some (record held { pins = held.pins + 1 })) → KeepsStates o p
 keeps_pinned None p there is = cc
 keeps_pinned (Some held) p there is = subst (λ (x : Option Held). KeepsStates (Some held) x) (sym is) (record {
   home = refl;
+  expected = refl;
   fit = λ fit. record { ordered = fit.ordered; states = fit.states };
   room = omega arith;
   states = λ i. refl;
@@ -127,7 +213,8 @@ keeps_pinned (Some held) p there is = subst (λ (x : Option Held). KeepsStates (
 pub left-pinned : (a b : DirectoryView) (copy lo hi : ℕ) (ts : List Transfer) → IsSome (copy_at a copy) → PinsOne a b copy → AreLeft a copy lo hi ts → AreLeft b copy lo hi ts
 left-pinned a b copy lo hi ts there p l =
     let kept = keeps_all (copy_at a) (copy_at b) copy (keeps_pinned (copy_at a copy) (copy_at b copy) there p.here) p.others in
-    left-on a b copy hi (λ q some. (kept q).home) (λ q i r e. r (sym ((kept q).states i) ∙ e)) (λ i below. (kept copy).states i) lo hi ts (omega arith) l
+    left-on a b copy hi (λ q some. (kept q).home) (λ q i r e. r (sym ((kept q).states i) ∙ e)) (λ i below. (kept copy).states i)
+    (λ lo hi alone q. alone-kept a b copy q lo hi (kept q) (kept copy).home alone) lo hi ts (omega arith) l
 
 -- nothing is left where all may be read
 pub left-none : (d : DirectoryView) (copy lo hi : ℕ) → MayRead (copy_at d copy) lo hi → AreLeft d copy lo hi []
@@ -139,14 +226,29 @@ alloc-later a b s space lo hi x = traces-map (IsAlloc s space lo hi) IsLater a b
 pub fill-later : (a b : DirectoryView) → Traces IsFillNear a b → Traces IsLater a b
 fill-later a b x = traces-map IsFillNear IsLater a b (λ m step is. inr is) x
 
-later-due : (space capacity len : ℕ) (m : Machine) (step : Step) → IsLater m step → IsDue capacity space len m step
-later-due space capacity len m step is = ⊎_elim
-    (λ (x : IsMade m step). alloc-due x.0 x.1 space x.2 x.3 capacity len m step x.4)
+later-step : (capacity space len : ℕ) (m : Machine) (step : Step) → IsLater m step → IsDueLater capacity space len m step
+later-step capacity space len m step is = ⊎_elim
+    (λ (x : IsMade m step). inl (alloc-yielding x.0 x.1 space x.2 x.3 capacity len m step x.4))
+    (λ (x : IsFillNear m step). inr x)
+    is
+
+due-step : (capacity space len : ℕ) (m : Machine) (step : Step) → IsDueLater capacity space len m step → IsDue capacity space len m step
+due-step capacity space len m step is = ⊎_elim
+    (λ (x : IsYielding capacity space len m step). yielding-due capacity space len m step x)
     (λ (x : IsFillNear m step). fill-due space capacity len m step (near-fill m step x))
     is
 
-pub traces-later-due : (a b : DirectoryView) (space capacity len : ℕ) → Traces IsLater a b → Traces (IsDue capacity space len) a b
-traces-later-due a b space capacity len x = traces-map IsLater (IsDue capacity space len) a b (later-due space capacity len) x
+-- room was made
+pub traces-room : (a b : DirectoryView) (capacity space len : ℕ) → Traces (IsYielding capacity space len) a b → Traces (IsDueLater capacity space len) a b
+traces-room a b capacity space len x = traces-map (IsYielding capacity space len) (IsDueLater capacity space len) a b (λ m step is. inl is) x
+
+-- room was made, and then what is near was filled
+pub traces-later : (a b n : DirectoryView) (capacity space len : ℕ) → Traces (IsYielding capacity space len) a b → Traces IsLater b n → Traces (IsDueLater capacity space len) a n
+traces-later a b n capacity space len x y = traces-trans (IsDueLater capacity space len) a b n (traces-room a b capacity space len x)
+    (traces-map IsLater (IsDueLater capacity space len) b n (later-step capacity space len) y)
+
+pub traces-later-due : (a b : DirectoryView) (capacity space len : ℕ) → Traces (IsDueLater capacity space len) a b → Traces (IsDue capacity space len) a b
+traces-later-due a b capacity space len x = traces-map (IsDueLater capacity space len) (IsDue capacity space len) a b (due-step capacity space len) x
 
 -- cells that were made readable in the host's copy of a block, for a stale run of a copy on a rank
 module _ (a n : DirectoryView) (copy from s lo hi end first last : ℕ) (there : IsSome (copy_at a copy)) (far : IsFar (copy_at a copy))

@@ -35,6 +35,7 @@ module _ (m : Machine) (copy lo hi : ℕ) (f g : ℕ → ℤ) (same : (i : ℕ) 
     marks = l.marks;
     cells = λ q i readable. sym (cells_same q i) ∙ l.cells q i readable;
     used = l.used;
+    messages = l.messages;
   }
 
   other_cells : (n : DirectoryView) → IsLike (writes copy lo hi f m) n → IsLike (writes copy lo hi g m) n

@@ -1,4 +1,5 @@
 pub mod StepKinds
+pub mod PinnedLemmas
 pub mod RetreatLemmas
 pub mod EvictLemmas
 pub mod WayLemmas
@@ -7,3 +8,4 @@ pub mod RoomLemmas
 pub mod TakenLemmas
 pub mod LegalWrites
 pub mod LaterLemmas
+pub mod MailLemmas

@@ -7,7 +7,7 @@ use Rattle.sk_spaces.specs.Machine.{Home, CopyState}
 use Rattle.sk_spaces.specs.Memories.{used_of}
 use Rattle.sk_spaces.specs.Spaces.{used_at}
 use Rattle.sk_copy_states.specs.declared.held.Held.{Held}
-use Rattle.sk_copy_states.specs.Copies.{KeepsStates, ReachesIn, home_in, home_store, store_in, state_in, cell_in, pins_in}
+use Rattle.sk_copy_states.specs.Copies.{KeepsStates, ReachesIn, home_in, home_store, store_in, state_in, cell_in, pins_in, expected_in}
 use Rattle.sk_copy_states.specs.Stores.{StoreView, store_of}
 use Rattle.sk_coherence_laws.specs.Directory.{DirectoryView, copy_at, cells_of_copy, IsSound}
 use Rattle.sk_coherence_laws.specs.Traced.{TracesStep, live_home}
@@ -24,7 +24,9 @@ use Rattle.sk_coherence_laws.proofs.ServesLemmas.{not_there, grows-trans, serves
 use Rattle.sk_coherence_laws.proofs.TracesLemmas.{traces-map, traces-trans, traces-one, far_same}
 use Rattle.sk_coherence_laws.proofs.FillSums.{traces-idle}
 use Rattle.sk_coherence.specs.Evicts.{OwnsNone, IsIn, IsFar, IsOnHost, Retreats}
+use Rattle.sk_coherence_laws.proofs.KeptLemmas.{keeps_same}
 use Rattle.sk_coherence.proofs.StepKinds.{alloc-eviction}
+use Rattle.sk_coherence.proofs.PinnedLemmas.{far-trans, not_both}
 
 -- one after another
 pub retreats-trans : (a b n : DirectoryView) (copy : ℕ) → IsSound a → Retreats a b copy → Retreats b n copy → Retreats a n copy
@@ -32,6 +34,7 @@ retreats-trans a b n copy sound x y = record {
   home = y.home ∙ x.home;
   serves = serves-trans a b n sound x.serves y.serves;
   stays = λ q there. let g = x.stays q there in grows-trans a b n q g (y.stays q (some_home (copy_at a q) (copy_at b q) (sym g.home) there));
+  others = far-trans a b n copy x.others y.others;
   owns = λ i own. x.owns i (y.owns i own);
   used = λ space some. y.used space some ∙ x.used space some;
   traced = λ space some is. traces-trans (IsEviction copy space (used_at a.spaces space)) a b n (x.traced space some is)
@@ -45,6 +48,7 @@ retreats-idle d n copy i = record {
   home = (i.copies copy).home;
   serves = serves-idle d n i;
   stays = λ q there. grows-idle d n i q;
+  others = λ q ne some far. i.copies q;
   owns = λ k own. sym ((i.copies copy).states k) ∙ own;
   used = λ space some. ap (λ x. used_of x space) i.spaces.memories;
   traced = λ space some is. traces-idle (IsEviction copy space (used_at d.spaces space)) d n i;
@@ -57,6 +61,7 @@ retreats-place d n copy s lo hi there serves stays p t = record {
   home = (p.kept copy there).home;
   serves = serves;
   stays = stays;
+  others = λ q ne some far. p.kept q some;
   owns = λ i own. sym ((p.kept copy there).states i) ∙ own;
   used = λ space some. p.used space (λ e. omega (arith, e, some));
   traced = λ space some is. traces-map (IsAlloc s 0 lo hi) (IsEviction copy space (used_at d.spaces space)) d n
@@ -115,6 +120,10 @@ module _ (d n : DirectoryView) (from to lo hi : ℕ) (sound : IsSound d) (can : 
         (λ e. subst (λ (x : ℕ). pins_in (copy_at n x) ≡ pins_in (copy_at d x)) (sym e) h.states.target.pins)
         (λ e. subst (λ (x : ℕ). pins_in (copy_at n x) ≡ pins_in (copy_at d x)) (sym e) h.states.source.pins)
         (λ ne nf. ap pins_in (h.states.others q ne nf));
+    expected = by_copy (expected_in (copy_at n q) ≡ expected_in (copy_at d q)) q
+        (λ e. subst (λ (x : ℕ). expected_in (copy_at n x) ≡ expected_in (copy_at d x)) (sym e) h.states.target.expected)
+        (λ e. subst (λ (x : ℕ). expected_in (copy_at n x) ≡ expected_in (copy_at d x)) (sym e) h.states.source.expected)
+        (λ ne nf. ap expected_in (h.states.others q ne nf));
     readable = read_on q;
     cells = cell_on q;
   }
@@ -181,6 +190,8 @@ module _ (d n : DirectoryView) (from to lo hi : ℕ) (sound : IsSound d) (can : 
     next = h.rest.next;
     owed = h.rest.owed;
     named = h.rest.named;
+    messages = h.rest.messages;
+    aside = h.rest.aside;
     next_copy = omega (arith, h.rest.next_copy);
     ranks = h.rest.ranks;
     capacity = h.rest.capacity;
@@ -200,6 +211,8 @@ module _ (d n : DirectoryView) (from to lo hi : ℕ) (sound : IsSound d) (can : 
     home = back_home from;
     serves = serves-back;
     stays = λ q there. grows-back q;
+    others = λ q ne some far. subst (λ (o : Option Held). KeepsStates (copy_at d q) o)
+        (sym (h.states.others q (λ e. not_both (copy_at d q) some far (subst (λ (x : ℕ). IsOnHost (copy_at d x)) (sym e) host)) ne)) (keeps_same (copy_at d q));
     owns = owns_less;
     used = λ space some. h.rest.used space;
     traced = λ space some is. traces-one (IsEviction from space (used_at d.spaces space)) d n (Back from to lo hi) h.rest.noted traced

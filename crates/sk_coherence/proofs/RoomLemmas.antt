@@ -8,12 +8,12 @@ use Rattle.sk_copy_states.specs.Stores.{StoreView, IsBlockOf}
 use Rattle.sk_coherence_laws.specs.Directory.{DirectoryView, copy_at, store_at, cells_of_copy, block_home, LiesInside, IsSound}
 use Rattle.sk_coherence_laws.specs.Owned.{IsOwned}
 use Rattle.sk_coherence_laws.specs.Serves.{Serves, unlisted}
-use Rattle.sk_coherence_laws.specs.Steps.{Traces, IsEviction, IsDue}
+use Rattle.sk_coherence_laws.specs.Steps.{Traces, IsEviction}
 use Rattle.sk_coherence_laws.proofs.OpenLemmas.{eq_yes}
 use Rattle.sk_coherence_laws.proofs.TracesLemmas.{traces-map, traces-trans}
 use Rattle.sk_coherence.specs.Evicts.{IsIn, IsFar, TracesEviction, Evicts}
-use Rattle.sk_coherence.specs.Room.{IsFull, IsGivingWay}
-use Rattle.sk_coherence.proofs.StepKinds.{eviction-due}
+use Rattle.sk_coherence.specs.Room.{IsFull, IsGivingWay, IsYielding}
+use Rattle.sk_coherence.proofs.StepKinds.{eviction-yielding}
 
 -- a copy in a rank's space lies on a rank
 pub far_in : (o : Option Held) (space : ℕ) → 0 < space → IsIn space o → IsFar o
@@ -44,12 +44,12 @@ pub traces-giving : (d n : DirectoryView) (copy space : ℕ) → 0 < space → I
 traces-giving d n copy space some is t = traces-map (IsEviction copy space (used_at d.spaces space)) (IsGivingWay space (used_at d.spaces space)) d n
     (λ m step done. (copy, done)) (t space some is)
 
--- and due, where the space was full
-pub traces-due : (a b n : DirectoryView) (capacity space len : ℕ) → capacity ≡ b.spaces.memories.capacity → IsFull b space len
-    → Traces (IsDue capacity space len) a b → Traces (IsGivingWay space (used_at b.spaces space)) b n → Traces (IsDue capacity space len) a n
-traces-due a b n capacity space len same full x y = traces-trans (IsDue capacity space len) a b n x
-    (traces-map (IsGivingWay space (used_at b.spaces space)) (IsDue capacity space len) b n
-    (λ m step is. eviction-due is.0 space (used_at b.spaces space) capacity len full.limited (omega (arith, same, full.full)) m step is.1) y)
+-- and that of one after another, where the space was full
+pub traces-yielding : (a b n : DirectoryView) (capacity space len : ℕ) → capacity ≡ b.spaces.memories.capacity → IsFull b space len
+    → Traces (IsYielding capacity space len) a b → Traces (IsGivingWay space (used_at b.spaces space)) b n → Traces (IsYielding capacity space len) a n
+traces-yielding a b n capacity space len same full x y = traces-trans (IsYielding capacity space len) a b n x
+    (traces-map (IsGivingWay space (used_at b.spaces space)) (IsYielding capacity space len) b n
+    (λ m step is. eviction-yielding is.0 space (used_at b.spaces space) capacity len full.limited (omega (arith, same, full.full)) m step is.1) y)
 
 -- a store that is there with its sizes
 block_on : (o p : Option StoreView) (lo hi : ℕ) → option_map unlisted p ≡ option_map unlisted o → IfSome o (IsBlockOf lo hi) → IfSome p (IsBlockOf lo hi)

@@ -1,10 +1,11 @@
 -- Copies that give way.
-use Rattle.std.specs.Prelude.{◌≡◌, ◌≢◌, ℕ, ◌+◌, ◌<◌, ◌≤◌, Option, None, IfSome, IsSome}
+use Rattle.std.specs.Prelude.{◌≡◌, ◌≢◌, ℕ, ◌+◌, ◌<◌, ◌≤◌, Option, Some, None, IfSome, IsSome}
 use Rattle.sk_ranges.specs.declared.state.State.TheVariants.{Owner}
 use Rattle.sk_spaces.specs.Blocks.{taken_in}
 use Rattle.sk_spaces.specs.Spaces.{used_at}
 use Rattle.sk_copy_states.specs.declared.held.Held.{Held}
-use Rattle.sk_copy_states.specs.Copies.{state_in, home_in}
+use Rattle.sk_spaces.specs.Machine.{Home}
+use Rattle.sk_copy_states.specs.Copies.{KeepsStates, state_in, home_in, pins_in}
 use Rattle.sk_coherence_laws.specs.Directory.{DirectoryView, copy_at, cells_of_copy}
 use Rattle.sk_coherence_laws.specs.Serves.{Serves, GrowsAt}
 use Rattle.sk_coherence_laws.specs.Steps.{Traces, IsEviction}
@@ -29,12 +30,32 @@ IsOnHost copy = IfSome (home_in copy) (λ home. home.space ≡ 0)
 abbrev pub TracesEviction : DirectoryView → DirectoryView → ℕ → Type 0
 TracesEviction old new copy = (space : ℕ) → 0 < space → IsIn space (copy_at old copy) → Traces (IsEviction copy space (used_at old.spaces space)) old new
 
+-- each copy on a rank but one lies as before, with its states
+abbrev pub KeepsFar : DirectoryView → DirectoryView → ℕ → Type 0
+KeepsFar old new but =
+    (q : ℕ) → q ≢ but → IsSome (copy_at old q) → IsFar (copy_at old q) → KeepsStates (copy_at old q) (copy_at new q)
+
+-- each copy that is made lies on the host
+abbrev pub MakesOnHost : DirectoryView → DirectoryView → Type 0
+MakesOnHost old new = (q : ℕ) → copy_at old q ≡ None → IsOnHost (copy_at new q)
+
+-- each copy that is pinned on a rank lies as before, with its states
+abbrev pub KeepsPinned : DirectoryView → DirectoryView → Type 0
+KeepsPinned old new =
+    (q : ℕ) → 0 < pins_in (copy_at old q) → IsFar (copy_at old q) → KeepsStates (copy_at old q) (copy_at new q)
+
+-- the same, but for copies that lie so
+abbrev pub KeepsPinnedBut : DirectoryView → DirectoryView → Home → Type 0
+KeepsPinnedBut old new home =
+    (q : ℕ) → home_in (copy_at old q) ≢ Some home → 0 < pins_in (copy_at old q) → IsFar (copy_at old q) → KeepsStates (copy_at old q) (copy_at new q)
+
 -- a copy, which lies where it did, handed cells back to the host: each index keeps its owner's cell, each copy stays, the copy owns no more than
 -- before, and of the ranks' spaces as much is taken
 pub record Retreats (old new : DirectoryView) (copy : ℕ) : Type 0 where
   pub home : home_in (copy_at new copy) ≡ home_in (copy_at old copy)
   pub serves : Serves old new
   pub stays : (q : ℕ) → IsSome (copy_at old q) → GrowsAt old new q
+  pub others : KeepsFar old new copy
   pub owns : (i : ℕ) → state_in (copy_at new copy) i ≡ Owner → state_in (copy_at old copy) i ≡ Owner
   pub used : (space : ℕ) → 0 < space → used_at new.spaces space ≡ used_at old.spaces space
   pub traced : TracesEviction old new copy

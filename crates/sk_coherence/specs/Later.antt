@@ -1,23 +1,36 @@
 -- Messages that are left to do for a copy.
-use Rattle.std.specs.Prelude.{◌≡◌, ℕ, ◌<◌, ◌≤◌, false, List, [], ◌∷◌, Option, Some, None, ◌⊎◌}
+use Rattle.std.specs.Prelude.{◌≡◌, ◌≢◌, ℕ, ◌<◌, ◌≤◌, false, List, [], ◌∷◌, Option, Some, None, ◌⊎◌}
 use Rattle.sk_spaces.specs.declared.step.Step.{Step}
 use Rattle.sk_spaces.specs.declared.step.Step.TheVariants.{Copy}
 use Rattle.sk_spaces.specs.Machine.{Machine, stale}
 use Rattle.sk_copies.specs.declared.Transfer.{Transfer}
+use Rattle.sk_copy_states.specs.declared.held.Held.{Held}
+use Rattle.sk_copy_states.specs.Copies.{store_in}
 use Rattle.sk_copy_states.specs.Sources.{MayRead}
 use Rattle.sk_coherence_laws.specs.Directory.{DirectoryView, copy_at}
 use Rattle.sk_coherence_laws.specs.Moves.{CanMove, IsStaleAt}
-use Rattle.sk_coherence_laws.specs.Serves.{Serves}
-use Rattle.sk_coherence_laws.specs.Steps.{Traces, IsAlloc, StandsIn, lie_apart}
+use Rattle.sk_coherence_laws.specs.Steps.{IsAlloc, StandsIn, lie_apart}
 use Rattle.sk_coherence.specs.Evicts.{IsIn, IsOnHost}
+use Rattle.sk_coherence.specs.Room.{IsYielding}
 
--- the message takes some indices of the copy, which are stale, from a copy on the host that may be read there
+-- two copies lie in one space
+abbrev pub LieTogether : Option Held → Option Held → Type 0
+LieTogether one other = (space : ℕ) × IsIn space one × IsIn space other
+
+-- each other copy of the copy's store in its space is stale at these indices
+abbrev pub IsAlone : DirectoryView → ℕ → ℕ → ℕ → Type 0
+IsAlone d copy lo hi =
+    (q : ℕ) → q ≢ copy → store_in (copy_at d q) ≡ store_in (copy_at d copy) → LieTogether (copy_at d q) (copy_at d copy) → IsStaleAt d q lo hi
+
+-- the message takes some indices of the copy, which are stale in each copy of the store in its space, from a copy on the host that
+-- may be read there
 pub record IsToSend (d : DirectoryView) (copy : ℕ) (transfer : Transfer) : Type 0 where
   pub to : transfer.to.id ≡ copy
   pub host : IsOnHost (copy_at d transfer.from.id)
   pub some : transfer.range.lo < transfer.range.hi
   pub can : CanMove d transfer.from.id copy transfer.range.lo transfer.range.hi
   pub stale : IsStaleAt d copy transfer.range.lo transfer.range.hi
+  pub alone : IsAlone d copy transfer.range.lo transfer.range.hi
 
 -- the messages take exactly those of the indices lo ≤ i < hi that are stale in the copy, each once, and in order
 abbrev pub AreLeft : DirectoryView → ℕ → ℕ → ℕ → List Transfer → Type 0
@@ -38,7 +51,7 @@ IsMade m step = (s : ℕ) × (space : ℕ) × (lo : ℕ) × (hi : ℕ) × IsAllo
 
 -- cells go to a copy on the host, or from a copy in one space to another one there
 abbrev pub IsClose : DirectoryView → ℕ → ℕ → Type 0
-IsClose d from to = IsOnHost (copy_at d to) ⊎ ((space : ℕ) × IsIn space (copy_at d from) × IsIn space (copy_at d to))
+IsClose d from to = IsOnHost (copy_at d to) ⊎ LieTogether (copy_at d from) (copy_at d to)
 
 -- cells are filled where they were stale, in a copy on the host or from its own space
 abbrev pub IsFillNear : Machine → Step → Type 0
@@ -50,8 +63,7 @@ IsFillNear m _ = ⊥
 abbrev pub IsLater : Machine → Step → Type 0
 IsLater m step = IsMade m step ⊎ IsFillNear m step
 
--- room was made as before says, and since then no copy on a rank was filled from afar
-pub record FillsNear (old new : DirectoryView) : Type 0 where
-  pub before : DirectoryView
-  pub serves : Serves old before
-  pub near : Traces IsLater before new
+-- why an acquire of so many cells on a rank that leaves messages to do takes a step: as one that fills nothing, or cells are filled
+-- where they were stale, but not from afar on a rank
+abbrev pub IsDueLater : ℕ → ℕ → ℕ → Machine → Step → Type 0
+IsDueLater capacity space len m step = IsYielding capacity space len m step ⊎ IsFillNear m step

@@ -1,12 +1,13 @@
 -- Room for a new block, and why there is none.
 use Rattle.std.specs.Prelude.{◌≡◌, ℕ, ◌+◌, ◌-◌, ◌<◌, ⊤}
 use Rattle.sk_spaces.specs.declared.step.Step.{Step}
+use Rattle.sk_spaces.specs.declared.step.Step.TheVariants.{Alloc, Back, Free}
 use Rattle.sk_spaces.specs.Machine.{Machine}
 use Rattle.sk_spaces.specs.Spaces.{used_at}
 use Rattle.sk_copy_states.specs.Loose.{pinned_in}
 use Rattle.sk_coherence_laws.specs.Directory.{DirectoryView}
 use Rattle.sk_coherence_laws.specs.HostBlocks.{HasBlock}
-use Rattle.sk_coherence_laws.specs.Steps.{IsEviction}
+use Rattle.sk_coherence_laws.specs.Steps.{IsEviction, StandsIn}
 use Rattle.sk_coherence.specs.declared.faults.AcquireFault.{AcquireFault}
 use Rattle.sk_coherence.specs.declared.faults.AcquireFault.TheVariants.{NoRoom, Memory}
 
@@ -36,3 +37,11 @@ IsEarly old new Memory = ⊤
 -- some copy in the space, of which so many cells are taken, is written back to the host and goes
 abbrev pub IsGivingWay : ℕ → ℕ → Machine → Step → Type 0
 IsGivingWay space used m step = (copy : ℕ) × IsEviction copy space used m step
+
+-- why an acquire of so many cells in a space that fills nothing takes a step: copies are made; and a copy of that space is written
+-- back and goes only while there would be more in the space than its capacity
+abbrev pub IsYielding : ℕ → ℕ → ℕ → Machine → Step → Type 0
+IsYielding capacity space len m (Alloc id store at lo hi) = ⊤
+IsYielding capacity space len m (Back source target lo hi) = (0 < space) × (capacity < m.used space + len) × StandsIn space (m.copies source)
+IsYielding capacity space len m (Free id) = (0 < space) × (capacity < m.used space + len) × StandsIn space (m.copies id)
+IsYielding capacity space len m _ = ⊥

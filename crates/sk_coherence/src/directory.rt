@@ -18,6 +18,7 @@ mod blocks;
 mod evict;
 mod fill;
 mod later;
+mod messages;
 mod moves;
 mod rebind;
 mod retire;
@@ -29,12 +30,13 @@ use sk_copy_states::copies::{own_alone, unpin};
 use sk_copy_states::held::Held;
 use sk_copy_states::store::Store;
 use sk_copy_states::stores::{insert, use_write};
+use sk_messages::Messages;
 use sk_spaces::{Block, Journal, Memory, Spaces, Step};
 use std::alloc::Global;
 use std::collections::BTreeMap;
 use std::marker::Model;
 
-/// The stores and their copies, over the memories of a run.
+/// The stores and their copies, and the messages between them, over the memories of a run.
 #[derive(Drop)]
 pub struct Directory<J: Journal> {
     spaces: Spaces<J>,
@@ -44,6 +46,8 @@ pub struct Directory<J: Journal> {
     ready: u32,
     owed: u32,
     named: Option<Step>,
+    messages: Messages,
+    aside: u32,
     alloc: Global,
 }
 
@@ -60,6 +64,8 @@ impl<J: Journal> Model for Directory<J> {
       ready = d.ready;
       owed = d.owed;
       named = d.named;
+      messages = d.messages;
+      aside = d.aside;
     } };
 
     ghost invariant = { λ d. IsSound (record {
@@ -70,6 +76,8 @@ impl<J: Journal> Model for Directory<J> {
       ready = d.ready;
       owed = d.owed;
       named = d.named;
+      messages = d.messages;
+      aside = d.aside;
     }) };
 }
 
@@ -85,6 +93,8 @@ impl<J: Journal> Directory<J> {
           ready = 0;
           owed = 0;
           named = None;
+          messages = record { first = 0; mails = []; room = 0; cells = 0 };
+          aside = 0;
         } }
     {
         Directory {
@@ -95,6 +105,8 @@ impl<J: Journal> Directory<J> {
             ready: 0,
             owed: 0,
             named: None,
+            messages: Messages::new(alloc),
+            aside: 0,
             alloc,
         }
     }
@@ -148,12 +160,14 @@ impl<J: Journal> Directory<J> {
             ready: _,
             owed: _,
             named: _,
+            messages: _,
+            aside: _,
             alloc: _,
         } = self;
         spaces.finish()
     }
 
-    /// Makes room for so many steps besides those that are owed; room that is there already counts.
+    /// Makes room for so many steps besides those that are owed, and those of messages; room that is there already counts.
     pub fn reserve(&mut self, alloc: Global, n: u32) -> Result<(), Memory>
         ensures ok { OnOk result (self.new.owed + n ≤ self.new.ready) }
         ensures kept { self.old.ready ≤ self.new.ready }
@@ -168,7 +182,10 @@ impl<J: Journal> Directory<J> {
         let Some(all) = self.owed.checked_add(n) else {
             return Err(Memory);
         };
-        self.spaces.reserve(alloc, all)?;
+        let Some(steps) = all.checked_add(self.aside) else {
+            return Err(Memory);
+        };
+        self.spaces.reserve(alloc, steps)?;
         self.ready = all;
         Ok(())
     }
@@ -234,8 +251,9 @@ impl<J: Journal> Directory<J> {
         unpin(&mut self.copies, copy.id);
     }
 
-    /// The cells of a copy become the owner's at a range of its block: every other copy of the store is stale there. It is
-    /// noted under the name that was given before, and takes no memory.
+    /// The cells of a copy become the owner's at a range of its block: every other copy of the store is stale there, and messages
+    /// over it are spoilt. It is noted under the name that was given before, and takes no memory. Beside the change of the copies' states
+    /// and one move of the cells it costs a look at each message since the last time when none was in flight, where one is.
     pub fn release_write(&mut self, copy: CopyId, range: Range, cells: &[Cell])
         requires named { IsSome self.old.named }
         requires there { IsSome (copy_at self.old copy.id) }
@@ -266,6 +284,7 @@ impl<J: Journal> Directory<J> {
         };
         let used = store.used_by_write();
         own_alone(&mut self.copies, store.copies(), copy.id, range);
+        self.messages.spoil(id, range);
         use_write(&mut self.stores, id);
         self.owed = self.owed.saturating_sub(used);
         self.ready -= 1;

@@ -83,10 +83,11 @@ read-pinned b n k copy lo hi home is g p r = λ i above below e. r i above below
 -- where each copy is as before, and nothing but copies was changed
 pub serves-unpinned : (d n : DirectoryView) → n ≡ record d { copies = n.copies } → ((q : ℕ) → copy_at n q ≡ copy_at d q) → Serves d n
 serves-unpinned d n same copies = Rattle.sk_coherence_laws.proofs.ServesLemmas.serves-kept d n
-    (λ q. subst (λ (o : Option Held). KeepsStates (copy_at d q) o) (sym (copies q)) (record { home = refl; fit = λ fit. fit; room = omega arith; states = λ i. refl }))
+    (λ q. subst (λ (o : Option Held). KeepsStates (copy_at d q) o) (sym (copies q)) (record { home = refl; expected = refl; fit = λ fit. fit; room = omega arith; states = λ i. refl }))
     (λ q. ap pins_in (copies q))
     (λ t. ap (λ v. Rattle.sk_coherence_laws.specs.Directory.store_at v t) same)
     (ap (λ (v : DirectoryView). v.spaces.memories) same) (ap (λ (v : DirectoryView). v.next) same) (ap (λ (v : DirectoryView). v.owed) same) (ap (λ (v : DirectoryView). v.named) same)
+    (ap (λ (v : DirectoryView). v.messages) same) (ap (λ (v : DirectoryView). v.aside) same)
 
 -- a store stays
 store_some : (o p : Option StoreView) → option_map unlisted p ≡ option_map unlisted o → IsSome o → IsSome p

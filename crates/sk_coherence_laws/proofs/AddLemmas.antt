@@ -1,5 +1,5 @@
 -- A directory is as sound with one copy more, and the machine is like it.
-use Rattle.std.proofs.Common.{◌≡◌, ◌≢◌, ℕ, ◌+◌, ◌-◌, ◌<◌, ◌≤◌, ◌==◌, if◌then◌else◌, Bool, List, [], ◌∷◌, ◌++◌, length, slice_index, Option, Some, None, IfSome, IsSome, IsSomeAnd, arith, ⊎_elim, refl, sym, subst, ◌∙◌, ap}
+use Rattle.std.proofs.Common.{◌≡◌, ◌≢◌, ℕ, ◌+◌, ◌-◌, ◌<◌, ◌≤◌, ◌==◌, if◌then◌else◌, Bool, List, [], ◌∷◌, ◌++◌, length, slice_index, Option, Some, None, IfSome, IsSome, IsSomeAnd, arith, ⊎_elim, refl, inr, sym, subst, ◌∙◌, ap}
 use Rattle.std.proofs.lemmas.Bool.{cases_eq, cases_lt}
 use Rattle.std.proofs.lemmas.Grind.{common_steps}
 use Rattle.sk_ranges.specs.declared.state.State.TheVariants.{Stale, Owner}
@@ -10,11 +10,13 @@ use Rattle.sk_spaces.specs.Blocks.{BlockView, IsWhole}
 use Rattle.sk_spaces.specs.Memories.{used_of, AddsBlock, fresh_block, LacksRoom}
 use Rattle.sk_copy_states.specs.declared.held.Held.{Held}
 use Rattle.sk_copy_states.specs.Held.{IsFit, IsFresh, mark_of}
-use Rattle.sk_copy_states.specs.Copies.{KeepsStates, pins_in, ChangesCopy, home_in, store_in, state_in, cell_in}
+use Rattle.sk_copy_states.specs.Copies.{KeepsStates, pins_in, expected_in, ChangesCopy, home_in, store_in, state_in, cell_in}
 use Rattle.sk_copy_states.specs.Stores.{StoreView, PutsStore, copies_in, changes_in, AreRising, HasTile, IsBlockOf, with_copy}
 use Rattle.sk_coherence_laws.specs.Directory.{DirectoryView, copy_at, store_at, cells_of_copy, block_home, IsSound, AreCoherent, LiesInside}
 use Rattle.sk_coherence_laws.specs.Traced.{IsLike, IsLineOf, live_home}
+use Rattle.sk_coherence_laws.specs.Serves.{HasOwner}
 use Rattle.sk_coherence_laws.proofs.InsideLemmas.{lens_on}
+use Rattle.sk_coherence_laws.proofs.MailLemmas.{StaysOrNew, stays_so, mailed-kept, like-mail-kept}
 use Rattle.sk_spaces.specs.Spaces.{Stays}
 use Rattle.sk_coherence_laws.specs.Moves.{Idles}
 use Rattle.sk_coherence_laws.specs.Adds.{AddsCopy}
@@ -44,8 +46,8 @@ none_there (Some held) is there = cc
 
 -- where the room of each copy is enough, and its store's is the same
 room_same : (d n : DirectoryView) (o : Option Held) → ((t : ℕ) → changes_in (store_at n t) ≡ changes_in (store_at d t))
-    → IfSome o (λ held. changes_in (store_at d held.store) ≤ held.states.reserved)
-    → IfSome o (λ held. changes_in (store_at n held.store) ≤ held.states.reserved)
+    → IfSome o (λ held. changes_in (store_at d held.store) + held.expected ≤ held.states.reserved)
+    → IfSome o (λ held. changes_in (store_at n held.store) + held.expected ≤ held.states.reserved)
 room_same d n None same room = tt
 room_same d n (Some held) same room = omega (arith, room, same held.store)
 
@@ -187,7 +189,17 @@ module _ (d n : DirectoryView) (id s space lo hi : ℕ) (st : StoreView) (held :
   inside_new block = subst (λ (h : Home). LiesInside d (Some h)) (sym a.home)
       (block.some, subst (λ (o : Option StoreView). hi ≤ store.len_in o) (sym a.store) block.inside)
 
-  pub sound-add : IsBlockOf lo hi st → n.owed ≤ n.ready → n.ready ≤ n.spaces.journal.spare → IsSound n
+  stays_now : (q : ℕ) → IsSome (copy_at n q) → StaysOrNew d n q
+  stays_now q there = ⊎_elim
+      (λ (e : q ≡ id). inr (omega (arith, e, a.memories.number)))
+      (λ (ne : q ≢ id). stays_so d n q (ap home_in (a.copies.others q ne)) (ap expected_in (a.copies.others q ne)) there)
+      (cases_eq q id)
+
+  owner_before : (q i : ℕ) → state_in (copy_at n q) i ≡ Owner → HasOwner n d q i
+  owner_before q i own = let c = a.copies.others q (owner_not_new q i own) in
+      record { at = q; store = ap store_in (sym c); owns = ap (λ o. state_in o i) (sym c) ∙ own; cell = ap (λ o. cell_in o i) (sym (a.memories.blocks.others q (owner_not_new q i own))) }
+
+  pub sound-add : IsBlockOf lo hi st → n.owed ≤ n.ready → n.ready + n.aside ≤ n.spaces.journal.spare → IsSound n
   sound-add block owed ready = record {
     fit = each (λ o b. IfSome o IsFit) a.fit sound.fit;
     whole = each (λ o b. IfSome b IsWhole) (fresh-whole s space lo hi (omega (arith, block.some))) sound.whole;
@@ -198,13 +210,14 @@ module _ (d n : DirectoryView) (id s space lo hi : ℕ) (st : StoreView) (held :
     rising = rising_now;
     tiles = tiles_now;
     room = λ q. room_same d n (copy_at n q) changes_same
-        (each (λ o b. IfSome o (λ held. changes_in (store_at d held.store) ≤ held.states.reserved))
-        (subst (λ (x : ℕ). changes_in (store_at d x) ≤ held.states.reserved) (sym a.home_store) (subst (λ (o : Option StoreView). changes_in o ≤ held.states.reserved) (sym a.store) a.room)) sound.room q);
+        (each (λ o b. IfSome o (λ held. changes_in (store_at d held.store) + held.expected ≤ held.states.reserved))
+        (subst (λ (x : ℕ). changes_in (store_at d x) + held.expected ≤ held.states.reserved) (sym a.home_store) (subst (λ (o : Option StoreView). changes_in o + held.expected ≤ held.states.reserved) (sym a.store) (omega (arith, a.room, a.expected)))) sound.room q);
     owed = owed;
     ready = ready;
     new_copies = λ q above. a.copies.others q (λ e. omega (arith, above, e, a.memories.next, a.memories.number)) ∙ sound.new_copies q (omega (arith, above, a.memories.next));
     new_stores = λ t above. a.stores.others t (λ e. some_store (store_at d t) (ap (store_at d) e ∙ a.store) (sound.new_stores t (omega (arith, above, a.next)))) ∙ sound.new_stores t (omega (arith, above, a.next));
     coherent = coherent_now;
+    mailed = mailed-kept d n sound.mailed a.messages a.aside (omega (arith, a.memories.next)) stays_now owner_before;
   }
     where
       some_store : (o : Option StoreView) → o ≡ Some st → o ≡ None → ⊥
@@ -261,6 +274,7 @@ module _ (d n : DirectoryView) (id s space lo hi : ℕ) (st : StoreView) (held :
     cells = λ q i readable. let qn = a.copies.others q (not_new q i readable) in
         l.cells q i (λ e. readable (ap (λ o. state_in o i) qn ∙ e)) ∙ ap (λ o. cell_in o i) (sym (a.memories.blocks.others q (not_new q i readable)));
     used = used_now m l;
+    messages = like-mail-kept m.messages d n l.messages a.messages;
   }
 
 take_held : (o : Option Held) (P : Held → Type 0) → IsSome o → IfSome o P → (held : Held) × (o ≡ Some held) × P held
@@ -281,9 +295,9 @@ if_some o x P is holds = subst (λ (o : Option _). IfSome o P) is holds
 -- a listed copy and a new block are a new copy
 pub adds_of : (d n : DirectoryView) (id s space lo hi : ℕ) (st : StoreView) → store_at d s ≡ Some st
     → Enters d.copies n.copies d.stores n.stores id s space lo hi st
-    → AddsBlock d.spaces.memories n.spaces.memories id (fresh_block s space lo hi) → n.next ≡ d.next
+    → AddsBlock d.spaces.memories n.spaces.memories id (fresh_block s space lo hi) → n.next ≡ d.next → n.messages ≡ d.messages → n.aside ≡ d.aside
     → (held : Held) × AddsCopy d n id s space lo hi st held
-adds_of d n id s space lo hi st is e b next =
+adds_of d n id s space lo hi st is e b next messages aside =
     let t = take_held (copy_at n id) (IsFresh s space lo hi st.room) e.there e.fresh in (
       t.0,
       record {
@@ -292,9 +306,12 @@ adds_of d n id s space lo hi st is e b next =
         store = is;
         stores = e.stores;
         next = next;
+        messages = messages;
+        aside = aside;
         home_store = ap (λ (h : Home). h.store) t.2.home;
         home = t.2.home;
         pins = t.2.pins;
+        expected = t.2.expected;
         fit = t.2.fit;
         room = t.2.ready;
         stale = t.2.stale;
@@ -341,14 +358,17 @@ module _ (d e n : DirectoryView) (id s space lo hi : ℕ) (st : StoreView) (abse
 
 -- where each look-up answers as before, nothing changed
 pub idle_at : (d n : DirectoryView) → ((q : ℕ) → copy_at n q ≡ copy_at d q) → ((t : ℕ) → store_at n t ≡ store_at d t)
-    → Stays d.spaces n.spaces d.spaces.named → n.next ≡ d.next → n.owed ≡ d.owed → n.named ≡ d.named → n.ready ≡ d.ready → Idles d n
-idle_at d n copies stores stays next owed named ready = record {
-  copies = λ q. subst (λ (o : Option Held). KeepsStates (copy_at d q) o) (sym (copies q)) (record { home = refl; fit = λ fit. fit; room = omega arith; states = λ i. refl });
+    → Stays d.spaces n.spaces d.spaces.named → n.next ≡ d.next → n.owed ≡ d.owed → n.named ≡ d.named → n.ready ≡ d.ready
+    → n.messages ≡ d.messages → n.aside ≡ d.aside → Idles d n
+idle_at d n copies stores stays next owed named ready messages aside = record {
+  copies = λ q. subst (λ (o : Option Held). KeepsStates (copy_at d q) o) (sym (copies q)) (record { home = refl; expected = refl; fit = λ fit. fit; room = omega arith; states = λ i. refl });
   pins = λ q. ap pins_in (copies q);
   stores = stores;
   next = next;
   owed = owed;
   named = named;
   ready = omega (arith, ready);
+  messages = messages;
+  aside = aside;
   spaces = stays;
 }

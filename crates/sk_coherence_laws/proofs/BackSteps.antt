@@ -1,5 +1,5 @@
 -- A directory is as sound where a copy handed cells back, and the machine's step leads to it.
-use Rattle.std.proofs.Common.{◌≡◌, ◌≢◌, ℕ, ◌<◌, ◌≤◌, ◌==◌, if◌then◌else◌, Bool, Option, None, IfSome, IsSome, ⊎_elim, refl, inl, inr, sym, subst, ◌∙◌, ap, ◌⊎◌}
+use Rattle.std.proofs.Common.{◌≡◌, ◌≢◌, ℕ, ◌+◌, ◌<◌, ◌≤◌, ◌==◌, if◌then◌else◌, Bool, Option, None, IfSome, IsSome, ⊎_elim, refl, inl, inr, sym, subst, ◌∙◌, ap, ◌⊎◌}
 use Rattle.std.proofs.lemmas.Bool.{cases_eq}
 use Rattle.sk_ranges.specs.declared.state.State.TheVariants.{Stale, Valid, Owner}
 use Rattle.sk_spaces.specs.declared.step.Step.TheVariants.{Back}
@@ -8,11 +8,14 @@ use Rattle.sk_spaces.specs.Blocks.{copied}
 use Rattle.sk_spaces.specs.Spaces.{Changes}
 use Rattle.sk_copy_states.specs.declared.held.Held.{Held}
 use Rattle.sk_copy_states.specs.Held.{IsFit, mark_of}
-use Rattle.sk_copy_states.specs.Copies.{SetsAt, home_in, state_in, cell_in}
+use Rattle.sk_copy_states.specs.Copies.{SetsAt, home_in, home_store, store_in, state_in, cell_in, expected_in}
 use Rattle.sk_copy_states.specs.Stores.{changes_in}
 use Rattle.sk_coherence_laws.specs.Directory.{DirectoryView, copy_at, store_at, cells_of_copy, IsSound}
 use Rattle.sk_coherence_laws.specs.Traced.{IsLike, TracesStep}
 use Rattle.sk_coherence_laws.specs.Moves.{CanMove, TakesIn, OwnsAt}
+use Rattle.sk_coherence_laws.specs.Serves.{HasOwner}
+use Rattle.sk_coherence_laws.proofs.MailLemmas.{mailed-so, like-mail-kept}
+use Rattle.sk_coherence_laws.proofs.StateLemmas.{valid_not_owner}
 use Rattle.sk_coherence_laws.proofs.OpenLemmas.{some_of, eq_yes, eq_no}
 use Rattle.sk_coherence_laws.proofs.TracedWrite.{some_home, within_yes, within_no, and_yes, and_no}
 use Rattle.sk_coherence_laws.proofs.LegalMoves.{can-copy}
@@ -26,9 +29,9 @@ module _ (d n : DirectoryView) (from to lo hi : ℕ) (sound : IsSound d) (can : 
     (ch : Changes d.spaces n.spaces to (copied lo hi (cells_of_copy d from) (cells_of_copy d to)) None (Back from to lo hi))
     (target : SetsAt (copy_at d to) (copy_at n to) lo hi Owner) (source : SetsAt (copy_at d from) (copy_at n from) lo hi Valid)
     (others : (q : ℕ) → q ≢ to → q ≢ from → copy_at n q ≡ copy_at d q)
-    (room_to : IfSome (copy_at n to) (λ held. changes_in (store_at d held.store) ≤ held.states.reserved))
-    (room_from : IfSome (copy_at n from) (λ held. changes_in (store_at d held.store) ≤ held.states.reserved))
-    (stores : n.stores ≡ d.stores) (next : n.next ≡ d.next) where
+    (room_to : IfSome (copy_at n to) (λ held. changes_in (store_at d held.store) + held.expected ≤ held.states.reserved))
+    (room_from : IfSome (copy_at n from) (λ held. changes_in (store_at d held.store) + held.expected ≤ held.states.reserved))
+    (stores : n.stores ≡ d.stores) (next : n.next ≡ d.next) (messages : n.messages ≡ d.messages) (aside : n.aside ≡ d.aside) where
   pub values : TakesIn (cell_in (cells_of_copy d from)) (cell_in (cells_of_copy d to)) (cell_in (cells_of_copy n to)) lo hi
   values = values_moved d n from to lo hi sound can ordered ch.memories.blocks.here
 
@@ -47,15 +50,48 @@ module _ (d n : DirectoryView) (from to lo hi : ℕ) (sound : IsSound d) (can : 
       (λ e. subst (λ (x : ℕ). IfSome (copy_at n x) IsFit) (sym e) (target.fit (sound.fit to)))
       (λ e. subst (λ (x : ℕ). IfSome (copy_at n x) IsFit) (sym e) (source.fit (sound.fit from)))
       (λ ne nf. subst (λ (o : Option Held). IfSome o IsFit) (sym (others q ne nf)) (sound.fit q)))
-      (λ q. by_copy (IfSome (copy_at n q) (λ held. changes_in (store_at d held.store) ≤ held.states.reserved)) q
-      (λ e. subst (λ (x : ℕ). IfSome (copy_at n x) (λ held. changes_in (store_at d held.store) ≤ held.states.reserved)) (sym e) room_to)
-      (λ e. subst (λ (x : ℕ). IfSome (copy_at n x) (λ held. changes_in (store_at d held.store) ≤ held.states.reserved)) (sym e) room_from)
-      (λ ne nf. subst (λ (o : Option Held). IfSome o (λ held. changes_in (store_at d held.store) ≤ held.states.reserved)) (sym (others q ne nf)) (sound.room q)))
+      (λ q. by_copy (IfSome (copy_at n q) (λ held. changes_in (store_at d held.store) + held.expected ≤ held.states.reserved)) q
+      (λ e. subst (λ (x : ℕ). IfSome (copy_at n x) (λ held. changes_in (store_at d held.store) + held.expected ≤ held.states.reserved)) (sym e) room_to)
+      (λ e. subst (λ (x : ℕ). IfSome (copy_at n x) (λ held. changes_in (store_at d held.store) + held.expected ≤ held.states.reserved)) (sym e) room_from)
+      (λ ne nf. subst (λ (o : Option Held). IfSome o (λ held. changes_in (store_at d held.store) + held.expected ≤ held.states.reserved)) (sym (others q ne nf)) (sound.room q)))
 
-  pub sound-back : n.owed ≤ n.ready → n.ready ≤ n.spaces.journal.spare → IsSound n
+  expected_kept : (q : ℕ) → expected_in (copy_at n q) ≡ expected_in (copy_at d q)
+  expected_kept q = by_copy (expected_in (copy_at n q) ≡ expected_in (copy_at d q)) q
+      (λ e. subst (λ (x : ℕ). expected_in (copy_at n x) ≡ expected_in (copy_at d x)) (sym e) target.expected)
+      (λ e. subst (λ (x : ℕ). expected_in (copy_at n x) ≡ expected_in (copy_at d x)) (sym e) source.expected)
+      (λ ne nf. ap expected_in (others q ne nf))
+
+  owner_in : (q i : ℕ) → lo ≤ i → i < hi → state_in (copy_at n q) i ≡ Owner → HasOwner n d q i
+  owner_in q i above below own = by_copy (HasOwner n d q i) q
+      (λ e. record {
+        at = from;
+        store = can.store ∙ ap (λ x. store_in (copy_at d x)) (sym e) ∙ sym (ap home_store (homes q));
+        owns = owns i above below;
+        cell = sym (subst (λ (x : ℕ). cell_in (cells_of_copy n x) i ≡ cell_in (cells_of_copy d from) i) (sym e) (values.inside i above below));
+      })
+      (λ e. absurd (valid_not_owner (sym (subst (λ (x : ℕ). state_in (copy_at n x) i ≡ Valid) (sym e) (source.states.inside i above below)) ∙ own)))
+      (λ ne nf. record {
+        at = q;
+        store = sym (ap home_store (homes q));
+        owns = sym (ap (λ o. state_in o i) (others q ne nf)) ∙ own;
+        cell = sym (ap (λ o. cell_in o i) (ch.memories.blocks.others q ne));
+      })
+
+  owner_before : (q i : ℕ) → state_in (copy_at n q) i ≡ Owner → HasOwner n d q i
+  owner_before q i own = within_or (HasOwner n d q i) lo hi i
+      (λ above below. owner_in q i above below own)
+      (λ out. record {
+        at = q;
+        store = sym (ap home_store (homes q));
+        owns = sym (back.state_out (copy_at d) (copy_at n) (cells_of_copy d) (cells_of_copy n) from to lo hi can.apart target source others values ch.memories.blocks.others q i out) ∙ own;
+        cell = sym (back.cell_out (copy_at d) (copy_at n) (cells_of_copy d) (cells_of_copy n) from to lo hi can.apart target source others values ch.memories.blocks.others q i out);
+      })
+
+  pub sound-back : n.owed ≤ n.ready → n.ready + n.aside ≤ n.spaces.journal.spare → IsSound n
   sound-back owed ready = sound-reshaped d n sound reshapes
       (back.coherent (copy_at d) (copy_at n) (cells_of_copy d) (cells_of_copy n) from to lo hi can.apart target source others values ch.memories.blocks.others
       can.store owns sound.coherent)
+      (mailed-so d n sound.mailed messages aside ch.memories.next homes expected_kept owner_before)
       owed ready
 
   mark_in : (m : Machine) → IsLike m d → (q i : ℕ) → lo ≤ i → i < hi → IsSome (copy_at n q)
@@ -114,6 +150,7 @@ module _ (d n : DirectoryView) (from to lo hi : ℕ) (sound : IsSound d) (can : 
       (λ q i some. within_or ((hands_over from to lo hi m).marks q i ≡ mark_of (state_in (copy_at n q) i)) lo hi i
       (λ above below. mark_in m l q i above below some) (λ out. mark_out m l q i out some))
       (cell_now m l)
+      (like-mail-kept m.messages d n l.messages messages)
 
   pub traced-back : TracesStep d n (Back from to lo hi)
   traced-back m l = (

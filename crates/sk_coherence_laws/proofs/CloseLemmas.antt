@@ -1,5 +1,5 @@
 -- A store goes with all of its copies.
-use Rattle.std.proofs.Common.{◌≡◌, ◌≢◌, ℕ, ◌-◌, ◌<◌, ◌≤◌, if◌then◌else◌, Bool, List, length, slice_index, Option, Some, None, IfSome, IsSome, IsSomeAnd, option_map, arith, ⊎_elim, refl, inl, inr, sym, subst, ◌∙◌, ap, ◌⊎◌}
+use Rattle.std.proofs.Common.{◌≡◌, ◌≢◌, ℕ, ◌+◌, ◌-◌, ◌<◌, ◌≤◌, if◌then◌else◌, Bool, List, length, slice_index, Option, Some, None, IfSome, IsSome, IsSomeAnd, option_map, arith, ⊎_elim, refl, inl, inr, sym, subst, ◌∙◌, ap, ◌⊎◌}
 use Rattle.std.proofs.lemmas.Bool.{cases_eq}
 use Rattle.sk_ranges.specs.declared.state.State.TheVariants as state
 use Rattle.sk_spaces.specs.declared.step.Step.TheVariants.{Stale}
@@ -14,11 +14,13 @@ use Rattle.sk_copy_states.specs.Copies.{LiesAmong, held_in, home_in, home_store,
 use Rattle.sk_copy_states.specs.Stores.{StoreView, store_of, copies_in, changes_in, len_in, AreRising, HasTile}
 use Rattle.sk_copy_states.proofs.InBlock.{in_block}
 use Rattle.sk_coherence_laws.specs.Directory.{DirectoryView, copy_at, store_at, IsSound, LiesInside}
+use Rattle.sk_messages.specs.Messages.{MessagesView, Spoils}
 use Rattle.sk_coherence_laws.specs.Traced.{IsLike, IsLineOf}
 use Rattle.sk_coherence_laws.specs.Serves.{unlisted}
 use Rattle.sk_coherence_laws.specs.Retires.{Thins, Closes, IsClosing, IsFreeing, IsOwnedIn, IsLikeBut, Leads}
 use Rattle.sk_coherence_laws.proofs.StateLemmas.{stale_not_owner, owner_not_stale}
 use Rattle.sk_coherence_laws.proofs.OpenLemmas.{some_of}
+use Rattle.sk_coherence_laws.proofs.MailLemmas.{mailed-spoilt-so, like-mail-fewer, like-mail-spoilt, spoilt-between}
 use Rattle.sk_coherence_laws.proofs.TracedWrite.{live_of, copy_of, not_copy_of, within_yes, within_no, and_yes, and_no}
 use Rattle.sk_coherence_laws.proofs.FillLemmas.{within_or}
 use Rattle.sk_coherence_laws.proofs.LegalMoves.{not_owner_mark}
@@ -27,6 +29,44 @@ use Rattle.sk_coherence_laws.proofs.PlacedLemmas.{placed-like}
 use Rattle.sk_coherence_laws.proofs.StaleLemmas.{inside-line}
 use Rattle.sk_coherence_laws.proofs.LeadsLemmas.{leads-trans, leads-map, leads-end, leads-one, leads-none}
 use Rattle.sk_coherence_laws.proofs.LeaveLemmas.{among_all, among_there, store_among, but-like, like-but, gone_among}
+
+-- messages over some indices of a store are forgotten, and no step is noted
+module _ (d : DirectoryView) (messages : MessagesView) (s lo hi : ℕ) (spoilt : Spoils d.messages messages s lo hi) where
+  abbrev forgetting : DirectoryView
+  forgetting = record d { messages = messages }
+
+  pub sound-forgetting : IsSound d → IsSound forgetting
+  sound-forgetting sound = record {
+    fit = sound.fit;
+    whole = sound.whole;
+    tied = sound.tied;
+    inside = sound.inside;
+    listed = sound.listed;
+    complete = sound.complete;
+    rising = sound.rising;
+    tiles = sound.tiles;
+    room = sound.room;
+    owed = sound.owed;
+    ready = sound.ready;
+    new_copies = sound.new_copies;
+    new_stores = sound.new_stores;
+    coherent = sound.coherent;
+    mailed = mailed-spoilt-so d forgetting s lo hi sound.mailed spoilt refl refl (λ q. refl) (λ q. refl)
+        (λ q i own. inr (record { at = q; store = refl; owns = own; cell = refl }));
+  }
+
+  pub like-forgetting : (m : Machine) → IsLike m d → IsLike m forgetting
+  like-forgetting m l = record {
+    memory = l.memory;
+    stores = l.stores;
+    new_stores = l.new_stores;
+    copies = l.copies;
+    new_copies = l.new_copies;
+    marks = l.marks;
+    cells = l.cells;
+    used = l.used;
+    messages = like-mail-fewer m.messages d forgetting s lo hi l.messages spoilt;
+  }
 
 -- a store without copies goes
 module _ (d : DirectoryView) (s : ℕ) (stores : List (ℕ × StoreView)) (owed : ℕ) (none : (q : ℕ) → store_in (copy_at d q) ≢ Some s)
@@ -44,10 +84,10 @@ module _ (d : DirectoryView) (s : ℕ) (stores : List (ℕ × StoreView)) (owed 
   inside_still None ne is = tt
   inside_still (Some home) ne is = (is.0, subst (λ (x : Option StoreView). home.hi ≤ len_in x) (sym (others home.store (λ e. ne (ap Some e)))) is.1)
 
-  room_still : (o : Option Held) → store_in o ≢ Some s → IfSome o (λ held. changes_in (store_at d held.store) ≤ held.states.reserved)
-      → IfSome o (λ held. changes_in (store_of stores held.store) ≤ held.states.reserved)
+  room_still : (o : Option Held) → store_in o ≢ Some s → IfSome o (λ held. changes_in (store_at d held.store) + held.expected ≤ held.states.reserved)
+      → IfSome o (λ held. changes_in (store_of stores held.store) + held.expected ≤ held.states.reserved)
   room_still None ne room = tt
-  room_still (Some held) ne room = subst (λ (x : Option StoreView). changes_in x ≤ held.states.reserved) (sym (others held.store (λ e. ne (ap Some e)))) room
+  room_still (Some held) ne room = subst (λ (x : Option StoreView). changes_in x + held.expected ≤ held.states.reserved) (sym (others held.store (λ e. ne (ap Some e)))) room
 
   pub sound-without : IsSound d → owed ≤ d.owed → IsSound without
   sound-without sound less = record {
@@ -66,6 +106,7 @@ module _ (d : DirectoryView) (s : ℕ) (stores : List (ℕ × StoreView)) (owed 
     new_copies = sound.new_copies;
     new_stores = λ t above. at_store (λ t o. d.next ≤ t → o ≡ None) (λ above. refl) sound.new_stores t above;
     coherent = sound.coherent;
+    mailed = record { mails = sound.mailed.mails; steps = sound.mailed.steps; deliveries = sound.mailed.deliveries; unsent = sound.mailed.unsent };
   }
 
   pub like-without : (m : Machine) → IsLike m d → IsLike m without
@@ -78,6 +119,7 @@ module _ (d : DirectoryView) (s : ℕ) (stores : List (ℕ × StoreView)) (owed 
     marks = l.marks;
     cells = l.cells;
     used = l.used;
+    messages = record { mails = l.messages.mails; fresh = l.messages.fresh };
   }
 
 -- what is owned lies in the block
@@ -89,9 +131,10 @@ hi_among : (o : Option Held) (s lo hi : ℕ) → LiesAmong s lo hi (home_in o) �
 hi_among None s lo hi is = tt
 hi_among (Some held) s lo hi is = is.2
 
--- the journal alone changed
+-- the journal alone changed, and messages over the store are spoilt
 module _ (d t : DirectoryView) (s : ℕ) (sound : IsSound d) (there : IsSome (store_at d s))
-    (copies : t.copies ≡ d.copies) (stores : t.stores ≡ d.stores) (next : t.next ≡ d.next) (memories : t.spaces.memories ≡ d.spaces.memories) where
+    (copies : t.copies ≡ d.copies) (stores : t.stores ≡ d.stores) (next : t.next ≡ d.next) (memories : t.spaces.memories ≡ d.spaces.memories)
+    (spoilt : Spoils d.messages t.messages s 0 (len_in (store_at d s))) where
   abbrev len : ℕ
   len = len_in (store_at d s)
 
@@ -99,7 +142,7 @@ module _ (d t : DirectoryView) (s : ℕ) (sound : IsSound d) (there : IsSome (st
   copy_t q = ap (λ x. held_in x q) copies
 
   like_t : (m : Machine) → IsLike m d → IsLike m t
-  like_t m l = like-same d t m memories copies stores next l
+  like_t m l = like-same (record d { messages = t.messages }) t m memories copies stores next refl (like-forgetting d t.messages s 0 len spoilt m l)
 
   not_of : (q : ℕ) → (LiesAmong s 0 len (home_in (copy_at t q)) → ⊥) → store_in (copy_at d q) ≢ Some s
   not_of q not e = not (subst (λ (o : Option Held). LiesAmong s 0 len (home_in o)) (sym (copy_t q))
@@ -124,7 +167,15 @@ module _ (d t : DirectoryView) (s : ℕ) (sound : IsSound d) (there : IsSome (st
 
   but_staled : (m : Machine) → IsLike m d → IsLikeBut s 0 len (stales s 0 len m) t
   but_staled m l = let k = like_t m l in let p = placed-like m t k in record {
-    placed = record { memory = p.memory; stores = p.stores; new_stores = p.new_stores; copies = p.copies; new_copies = p.new_copies; used = p.used };
+    placed = record {
+      memory = p.memory;
+      stores = p.stores;
+      new_stores = p.new_stores;
+      copies = p.copies;
+      new_copies = p.new_copies;
+      used = p.used;
+      messages = like-mail-spoilt m.messages d t s 0 len l.messages spoilt;
+    };
     marks = λ q i some not.
         ap (λ (b : Bool). if b then stale else m.marks q i)
         (and_no (is_copy_of s (m.copies q)) (is_within 0 len i) (inl (not_copy_of (m.copies q) (copy_at d q) s (l.copies q) (not_of q not))))
@@ -172,6 +223,7 @@ changes_unlisted (Some o) (Some p) e = ap changes_in e
 module _ (a t u n : DirectoryView) (s : ℕ) (sound : IsSound t)
     (copies : t.copies ≡ a.copies) (stores : t.stores ≡ a.stores) (next : t.next ≡ a.next) (owed : t.owed ≡ a.owed) (named : t.named ≡ a.named)
     (memories : t.spaces.memories ≡ a.spaces.memories)
+    (messages : Spoils a.messages t.messages s 0 (len_in (store_at a s))) (aside : t.aside ≡ a.aside)
     (th : Thins t u s 0 (len_in (store_at a s))) (none : (q : ℕ) → LiesAmong s 0 (len_in (store_at a s)) (home_in (copy_at u q)) → ⊥)
     (gone : store_at n s ≡ None) (others : (v : ℕ) → v ≢ s → store_at n v ≡ store_at u v)
     (same : n ≡ record u { stores = n.stores; owed = u.owed - changes_in (store_at u s) }) where
@@ -205,6 +257,8 @@ module _ (a t u n : DirectoryView) (s : ℕ) (sound : IsSound t)
         ∙ omega (arith, th.owed, owed, changes_unlisted (store_at u s) (store_at t s) (th.stores s), ap (λ x. changes_in (store_of x s)) stores);
     next = ap (λ (x : DirectoryView). x.next) same ∙ th.next ∙ next;
     named = ap (λ (x : DirectoryView). x.named) same ∙ th.named ∙ named;
+    messages = spoilt-between a.messages a.messages t.messages n.messages s 0 (len_in (store_at a s)) refl messages (ap (λ (x : DirectoryView). x.messages) same ∙ th.messages);
+    aside = ap (λ (x : DirectoryView). x.aside) same ∙ th.aside ∙ aside;
     next_copy = ap (λ (x : DirectoryView). x.spaces.memories.next) same ∙ th.next_copy ∙ ap (λ x. x.next) memories;
     ranks = ap (λ (x : DirectoryView). x.spaces.memories.ranks) same ∙ th.ranks ∙ ap (λ x. x.ranks) memories;
     capacity = ap (λ (x : DirectoryView). x.spaces.memories.capacity) same ∙ th.capacity ∙ ap (λ x. x.capacity) memories;

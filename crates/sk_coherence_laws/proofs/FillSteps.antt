@@ -1,7 +1,7 @@
 -- A directory is as sound where a copy was filled, and the machine's copy leads to it.
-use Rattle.std.proofs.Common.{◌≡◌, ◌≢◌, ℕ, ◌<◌, ◌≤◌, ◌==◌, ◌&&◌, if◌then◌else◌, List, Bool, false, Option, None, IfSome, IsSome, IsSomeAnd, arith, ⊎_elim, refl, inl, inr, sym, subst, ◌∙◌, ap, ◌⊎◌}
+use Rattle.std.proofs.Common.{◌≡◌, ◌≢◌, ℕ, ◌+◌, ◌<◌, ◌≤◌, ◌==◌, ◌&&◌, if◌then◌else◌, List, Bool, false, Option, None, IfSome, IsSome, IsSomeAnd, arith, ⊎_elim, refl, inl, inr, sym, subst, ◌∙◌, ap, ◌⊎◌}
 use Rattle.std.proofs.lemmas.Bool.{cases_eq}
-use Rattle.sk_ranges.specs.declared.state.State.TheVariants.{Valid}
+use Rattle.sk_ranges.specs.declared.state.State.TheVariants.{Valid, Owner}
 use Rattle.sk_spaces.specs.declared.step.Step.{Step}
 use Rattle.sk_spaces.specs.declared.step.Step.TheVariants.{Copy}
 use Rattle.sk_spaces.specs.Machine.{Machine, is_within, filled_mark, fills}
@@ -10,12 +10,14 @@ use Rattle.sk_spaces.specs.Spaces.{Changes}
 use Rattle.sk_spaces.proofs.CopyLemmas.{taken-copied}
 use Rattle.sk_copy_states.specs.declared.held.Held.{Held}
 use Rattle.sk_copy_states.specs.Held.{IsFit, mark_of}
-use Rattle.sk_copy_states.specs.Copies.{SetsAt, home_in, state_in, cell_in}
+use Rattle.sk_copy_states.specs.Copies.{SetsAt, home_in, home_store, state_in, cell_in, expected_in}
 use Rattle.sk_copy_states.specs.Stores.{StoreView, copies_in, changes_in, HasTile, store_of}
 use Rattle.sk_coherence_laws.specs.Directory.{DirectoryView, copy_at, store_at, cells_of_copy, block_home, IsSound}
 use Rattle.sk_coherence_laws.specs.Traced.{IsLike, IsLineOf, TracesStep}
 use Rattle.sk_coherence_laws.specs.Moves.{CanMove, TakesIn, IsStaleAt}
+use Rattle.sk_coherence_laws.specs.Serves.{HasOwner}
 use Rattle.sk_coherence_laws.proofs.InsideLemmas.{lens_same}
+use Rattle.sk_coherence_laws.proofs.MailLemmas.{mailed-so, like-mail-kept}
 use Rattle.sk_coherence_laws.proofs.OpenLemmas.{some_of, eq_yes, eq_no}
 use Rattle.sk_coherence_laws.proofs.SoundWrite.{reaches_block, some_block}
 use Rattle.sk_coherence_laws.proofs.TracedWrite.{some_home, within_yes, and_yes}
@@ -50,14 +52,14 @@ pub reshapes-moved : (d n : DirectoryView) (from to lo hi : ℕ) (step : Step) �
     → Changes d.spaces n.spaces to (copied lo hi (cells_of_copy d from) (cells_of_copy d to)) None step
     → n.stores ≡ d.stores → n.next ≡ d.next
     → ((q : ℕ) → home_in (copy_at n q) ≡ home_in (copy_at d q)) → ((q : ℕ) → IfSome (copy_at n q) IsFit)
-    → ((q : ℕ) → IfSome (copy_at n q) (λ held. changes_in (store_at d held.store) ≤ held.states.reserved))
+    → ((q : ℕ) → IfSome (copy_at n q) (λ held. changes_in (store_at d held.store) + held.expected ≤ held.states.reserved))
     → Reshapes d n
 reshapes-moved d n from to lo hi step s c ordered ch stores next homes fit room =
     let at : (t : ℕ) → store_at n t ≡ store_at d t = λ t. ap (λ (x : List (ℕ × StoreView)). store_of x t) stores in
     record {
       homes = homes;
       fit = fit;
-      room = λ q. subst (λ (x : List (ℕ × StoreView)). IfSome (copy_at n q) (λ held. changes_in (store_of x held.store) ≤ held.states.reserved)) (sym stores) (room q);
+      room = λ q. subst (λ (x : List (ℕ × StoreView)). IfSome (copy_at n q) (λ held. changes_in (store_of x held.store) + held.expected ≤ held.states.reserved)) (sym stores) (room q);
       listed = λ t. ap copies_in (at t);
       tiles = λ t. subst (λ (o : Option StoreView). IfSome o HasTile) (sym (at t)) (s.tiles t);
       lens = lens_same d n at;
@@ -85,8 +87,8 @@ module _ (d n : DirectoryView) (from to lo hi : ℕ) (sound : IsSound d) (can : 
     (missing : IsStaleAt d to lo hi)
     (ch : Changes d.spaces n.spaces to (copied lo hi (cells_of_copy d from) (cells_of_copy d to)) None (Copy from to lo hi))
     (target : SetsAt (copy_at d to) (copy_at n to) lo hi Valid) (others : (q : ℕ) → q ≢ to → copy_at n q ≡ copy_at d q)
-    (room : IfSome (copy_at n to) (λ held. changes_in (store_at d held.store) ≤ held.states.reserved))
-    (stores : n.stores ≡ d.stores) (next : n.next ≡ d.next) where
+    (room : IfSome (copy_at n to) (λ held. changes_in (store_at d held.store) + held.expected ≤ held.states.reserved))
+    (stores : n.stores ≡ d.stores) (next : n.next ≡ d.next) (messages : n.messages ≡ d.messages) (aside : n.aside ≡ d.aside) where
   pub values : TakesIn (cell_in (cells_of_copy d from)) (cell_in (cells_of_copy d to)) (cell_in (cells_of_copy n to)) lo hi
   values = values_moved d n from to lo hi sound can ordered ch.memories.blocks.here
 
@@ -98,13 +100,25 @@ module _ (d n : DirectoryView) (from to lo hi : ℕ) (sound : IsSound d) (can : 
       (λ (ne : q ≢ to). subst (λ (o : Option Held). IfSome o IsFit) (sym (others q ne)) (sound.fit q))
       (cases_eq q to))
       (λ q. ⊎_elim
-      (λ (e : q ≡ to). subst (λ (x : ℕ). IfSome (copy_at n x) (λ held. changes_in (store_at d held.store) ≤ held.states.reserved)) (sym e) room)
-      (λ (ne : q ≢ to). subst (λ (o : Option Held). IfSome o (λ held. changes_in (store_at d held.store) ≤ held.states.reserved)) (sym (others q ne)) (sound.room q))
+      (λ (e : q ≡ to). subst (λ (x : ℕ). IfSome (copy_at n x) (λ held. changes_in (store_at d held.store) + held.expected ≤ held.states.reserved)) (sym e) room)
+      (λ (ne : q ≢ to). subst (λ (o : Option Held). IfSome o (λ held. changes_in (store_at d held.store) + held.expected ≤ held.states.reserved)) (sym (others q ne)) (sound.room q))
       (cases_eq q to))
 
-  pub sound-fill : n.owed ≤ n.ready → n.ready ≤ n.spaces.journal.spare → IsSound n
+  expected_kept : (q : ℕ) → expected_in (copy_at n q) ≡ expected_in (copy_at d q)
+  expected_kept q = ⊎_elim
+      (λ (e : q ≡ to). subst (λ (x : ℕ). expected_in (copy_at n x) ≡ expected_in (copy_at d x)) (sym e) target.expected)
+      (λ (ne : q ≢ to). ap expected_in (others q ne))
+      (cases_eq q to)
+
+  owner_before : (q i : ℕ) → state_in (copy_at n q) i ≡ Owner → HasOwner n d q i
+  owner_before q i own =
+      let o = fill.owner_before (copy_at d) (copy_at n) (cells_of_copy d) (cells_of_copy n) from to lo hi target others values ch.memories.blocks.others q i own in
+      record { at = q; store = sym (ap home_store (reshapes.homes q)); owns = o.0; cell = sym o.1 }
+
+  pub sound-fill : n.owed ≤ n.ready → n.ready + n.aside ≤ n.spaces.journal.spare → IsSound n
   sound-fill owed ready = sound-reshaped d n sound reshapes
       (fill.coherent (copy_at d) (copy_at n) (cells_of_copy d) (cells_of_copy n) from to lo hi target others values ch.memories.blocks.others can.store can.readable sound.coherent)
+      (mailed-so d n sound.mailed messages aside ch.memories.next reshapes.homes expected_kept owner_before)
       owed ready
 
   mark_filled : (m : Machine) → IsLike m d → (q i : ℕ) → q ≡ to → lo ≤ i → i < hi
@@ -166,6 +180,7 @@ module _ (d n : DirectoryView) (from to lo hi : ℕ) (sound : IsSound d) (can : 
       ∙ l.cells from i (can.readable i above below)
       ∙ sym (subst (λ (x : ℕ). cell_in (cells_of_copy n x) i ≡ cell_in (cells_of_copy d from) i) (sym e) (values.inside i above below)))
       (λ out. (unfilled m q i out).1 ∙ l.cells q i (λ e. readable (state_else q i out ∙ e)) ∙ sym (cell_else q i out)))
+      (like-mail-kept m.messages d n l.messages messages)
 
   pub traced-fill : TracesStep d n (Copy from to lo hi)
   traced-fill m l = ((some_of m.memory _ l.memory, can-copy m d from to lo hi l can ordered), like-fill m l)

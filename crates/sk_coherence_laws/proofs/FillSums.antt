@@ -18,7 +18,7 @@ use Rattle.sk_coherence_laws.proofs.ServesLemmas.{serves-trans, serves-idle, ser
 use Rattle.sk_coherence_laws.proofs.TracesLemmas.{traces-none, traces-one, traces-trans, far_same, is-fill}
 
 pub like-idle : (d n : DirectoryView) → Idles d n → (m : Machine) → IsLike m d → IsLike m n
-like-idle d n i m l = like-kept d n i.copies m i.spaces.memories i.stores i.next l
+like-idle d n i m l = like-kept d n i.copies m i.spaces.memories i.stores i.next i.messages l
 
 -- what leaves the directory as it was notes no step
 pub traces-idle : (P : Machine → Step → Type 0) (d n : DirectoryView) → Idles d n → Traces P d n
@@ -28,6 +28,7 @@ pub idle-trans : (a b n : DirectoryView) → Idles a b → Idles b n → Idles a
 idle-trans a b n x y = record {
   copies = λ q. record {
     home = (y.copies q).home ∙ (x.copies q).home;
+    expected = (y.copies q).expected ∙ (x.copies q).expected;
     fit = λ fit. (y.copies q).fit ((x.copies q).fit fit);
     room = omega (arith, (x.copies q).room, (y.copies q).room);
     states = λ i. (y.copies q).states i ∙ (x.copies q).states i;
@@ -38,6 +39,8 @@ idle-trans a b n x y = record {
   owed = y.owed ∙ x.owed;
   named = y.named ∙ x.named;
   ready = omega (arith, x.ready, y.ready);
+  messages = y.messages ∙ x.messages;
+  aside = y.aside ∙ x.aside;
   spaces = record {
     memories = y.spaces.memories ∙ x.spaces.memories;
     named = y.spaces.named ∙ x.spaces.named;

@@ -11,13 +11,15 @@ use Rattle.sk_spaces.specs.Blocks.{BlockView, IsWhole, taken_in}
 use Rattle.sk_spaces.specs.Memories.{used_of}
 use Rattle.sk_copy_states.specs.declared.held.Held.{Held}
 use Rattle.sk_copy_states.specs.Held.{IsFit, mark_of}
-use Rattle.sk_copy_states.specs.Copies.{home_in, store_in, state_in, cell_in}
+use Rattle.sk_copy_states.specs.Copies.{home_in, store_in, state_in, cell_in, expected_in}
 use Rattle.sk_copy_states.specs.Stores.{StoreView, copies_in, changes_in, len_in, AreRising, HasTile}
 use Rattle.sk_coherence_laws.specs.Directory.{DirectoryView, copy_at, store_at, cells_of_copy, block_home, IsSound, AreCoherent, LiesInside}
 use Rattle.sk_coherence_laws.specs.Traced.{IsLike, IsLineOf, live_home, TracesStep}
 use Rattle.sk_coherence_laws.specs.Frees.{FreesCopy}
 use Rattle.sk_coherence_laws.specs.Retires.{IsPlaced}
+use Rattle.sk_coherence_laws.specs.Serves.{HasOwner}
 use Rattle.sk_coherence_laws.proofs.InsideLemmas.{lens_on}
+use Rattle.sk_coherence_laws.proofs.MailLemmas.{StaysOrNew, stays_so, mailed-kept, like-mail-kept}
 use Rattle.sk_coherence_laws.proofs.PlacedLemmas.{placed-like, like-placed}
 use Rattle.sk_coherence_laws.proofs.LegalMoves.{not_owner_mark}
 use Rattle.sk_coherence_laws.proofs.OpenLemmas.{some_of, eq_yes, eq_no, replaced_here, replaced_else}
@@ -42,8 +44,8 @@ store_there None s is = cc
 store_there (Some held) s is = refl
 
 room_free : (d n : DirectoryView) (o : Option Held) → ((t : ℕ) → changes_in (store_at n t) ≡ changes_in (store_at d t))
-    → IfSome o (λ held. changes_in (store_at d held.store) ≤ held.states.reserved)
-    → IfSome o (λ held. changes_in (store_at n held.store) ≤ held.states.reserved)
+    → IfSome o (λ held. changes_in (store_at d held.store) + held.expected ≤ held.states.reserved)
+    → IfSome o (λ held. changes_in (store_at n held.store) + held.expected ≤ held.states.reserved)
 room_free d n None same room = tt
 room_free d n (Some held) same room = omega (arith, room, same held.store)
 
@@ -218,7 +220,14 @@ module _ (d n : DirectoryView) (id s : ℕ) (st now : StoreView) (sound : IsSoun
       some_store : (o : Option StoreView) → o ≡ Some st → o ≡ None → ⊥
       some_store o one other = cc
 
-  pub sound-free : n.owed ≤ n.ready → n.ready ≤ n.spaces.journal.spare → IsSound n
+  stays_now : (q : ℕ) → IsSome (copy_at n q) → StaysOrNew d n q
+  stays_now q some = let c = f.copies.others q (not_gone q some) in stays_so d n q (ap home_in c) (ap expected_in c) some
+
+  owner_before : (q i : ℕ) → state_in (copy_at n q) i ≡ Owner → HasOwner n d q i
+  owner_before q i own = let ne = owner_stays q i own in let c = f.copies.others q ne in
+      record { at = q; store = ap store_in (sym c); owns = ap (λ o. state_in o i) (sym c) ∙ own; cell = ap (λ o. cell_in o i) (sym (f.memories.blocks.others q ne)) }
+
+  pub sound-free : n.owed ≤ n.ready → n.ready + n.aside ≤ n.spaces.journal.spare → IsSound n
   sound-free owed ready = record {
     fit = each (λ o b. IfSome o IsFit) tt sound.fit;
     whole = each (λ o b. IfSome b IsWhole) tt sound.whole;
@@ -228,12 +237,13 @@ module _ (d n : DirectoryView) (id s : ℕ) (st now : StoreView) (sound : IsSoun
     complete = complete_now;
     rising = rising_now;
     tiles = tiles_now;
-    room = λ q. room_free d n (copy_at n q) changes_same (each (λ o b. IfSome o (λ held. changes_in (store_at d held.store) ≤ held.states.reserved)) tt sound.room q);
+    room = λ q. room_free d n (copy_at n q) changes_same (each (λ o b. IfSome o (λ held. changes_in (store_at d held.store) + held.expected ≤ held.states.reserved)) tt sound.room q);
     owed = owed;
     ready = ready;
     new_copies = λ q above. let below : d.spaces.memories.next ≤ q = omega (arith, above, f.memories.next) in f.copies.others q (id_below q below) ∙ sound.new_copies q below;
     new_stores = λ t above. let below : d.next ≤ t = omega (arith, above, f.next) in f.stores.others t (s_below t below) ∙ sound.new_stores t below;
     coherent = coherent_now;
+    mailed = mailed-kept d n sound.mailed f.messages f.aside (omega (arith, f.memories.next)) stays_now owner_before;
   }
 
   stores_like : (m : Machine) → IsPlaced m d → (t : ℕ) → IfSome (store_at n t) (λ store. IsSomeAnd (m.stores t) (IsLineOf store))
@@ -271,6 +281,7 @@ module _ (d n : DirectoryView) (id s : ℕ) (st now : StoreView) (sound : IsSoun
     new_copies = λ q above. let below : d.spaces.memories.next ≤ q = omega (arith, above, f.memories.next) in
         replaced_else m.copies id freed q (id_below q below) ∙ l.new_copies q below;
     used = used_now m l home is;
+    messages = like-mail-kept m.messages d n l.messages f.messages;
   }
 
   pub copy_left : (q : ℕ) → IsSome (copy_at n q) → copy_at n q ≡ copy_at d q

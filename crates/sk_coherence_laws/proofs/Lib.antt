@@ -1,5 +1,6 @@
 pub mod StateLemmas
 pub mod CellLemmas
+pub mod MailLemmas
 pub mod InsideLemmas
 pub mod WriteLemmas
 pub mod SoundWrite
@@ -31,3 +32,7 @@ pub mod LeadsLemmas
 pub mod LeaveLemmas
 pub mod RetireLemmas
 pub mod CloseLemmas
+pub mod SendLemmas
+pub mod FlyingLemmas
+pub mod DeliverLemmas
+pub mod RoomForSends

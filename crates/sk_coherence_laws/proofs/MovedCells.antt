@@ -14,12 +14,12 @@ length_part xs a b ordered within = grind (arith, common_steps)
 part_at : (xs : List ℤ) (a b k : ℕ) → a ≤ b → b ≤ length xs → a + k < b → slice_index_or (slice_range xs a b) k (pos 0) ≡ slice_index_or xs (a + k) (pos 0)
 part_at xs a b k ordered within below = grind (arith, common_steps)
 
-length_cells : (b : BlockView) (lo hi : ℕ) → IsWhole b → Reaches lo hi b → lo + length (cells_at b lo hi) ≡ hi
+pub length_cells : (b : BlockView) (lo hi : ℕ) → IsWhole b → Reaches lo hi b → lo + length (cells_at b lo hi) ≡ hi
 length_cells b lo hi whole reaches =
     omega (arith, length_part b.cells (lo - b.lo) (hi - b.lo) (omega (arith, reaches.ordered)) (omega (arith, whole.cells, reaches.above, reaches.below)), reaches.above, reaches.ordered)
 
 -- the cell of one of the indices
-cell_part : (b : BlockView) (lo hi i : ℕ) → IsWhole b → Reaches lo hi b → lo ≤ i → i < hi
+pub cell_part : (b : BlockView) (lo hi i : ℕ) → IsWhole b → Reaches lo hi b → lo ≤ i → i < hi
     → slice_index_or (cells_at b lo hi) (i - lo) (pos 0) ≡ cell_of b i
 cell_part b lo hi i whole reaches above below =
     let p = part_at b.cells (lo - b.lo) (hi - b.lo) (i - lo) (omega (arith, reaches.ordered)) (omega (arith, whole.cells, reaches.above, reaches.below)) (omega (arith, reaches.above, above, below)) in

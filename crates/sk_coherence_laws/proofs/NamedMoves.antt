@@ -6,7 +6,7 @@ use Rattle.sk_spaces.specs.declared.step.Step.{Step}
 use Rattle.sk_spaces.specs.Blocks.{copied}
 use Rattle.sk_spaces.specs.Spaces.{SpacesView, Changes, block_at, name_or}
 use Rattle.sk_copy_states.specs.declared.held.Held.{Held}
-use Rattle.sk_copy_states.specs.Copies.{SetsAt, KeepsStates, home_in, home_store, pins_in, room_in}
+use Rattle.sk_copy_states.specs.Copies.{SetsAt, KeepsStates, HasRoomIn, home_in, home_store, pins_in, expected_in, room_in}
 use Rattle.sk_copy_states.specs.Stores.{changes_in}
 use Rattle.sk_coherence_laws.specs.Directory.{DirectoryView, store_at}
 
@@ -24,15 +24,15 @@ changed_as old mid new from to lo hi step own r is ok holds =
 
 -- the room that is left where so much was made
 pub room_left : (d : DirectoryView) (o mid p : Option Held) (n : ℕ) → IsSome o
-    → IfSome o (λ held. n ≡ changes_in (store_at d held.store) + 1) → IfSome mid (λ held. n ≤ held.states.reserved)
-    → home_in mid ≡ home_in o → home_in p ≡ home_in mid → room_in mid ≤ room_in p + 1
-    → IfSome p (λ held. changes_in (store_at d held.store) ≤ held.states.reserved)
-room_left d o mid None n there is made one two used = tt
-room_left d None mid (Some p) n there is made one two used = cc
-room_left d (Some o) None (Some p) n there is made one two used = cc
-room_left d (Some o) (Some m) (Some p) n there is made one two used =
+    → IfSome o (λ held. n ≡ changes_in (store_at d held.store) + 1) → HasRoomIn n mid
+    → home_in mid ≡ home_in o → home_in p ≡ home_in mid → expected_in p ≡ expected_in mid → room_in mid ≤ room_in p + 1
+    → IfSome p (λ held. changes_in (store_at d held.store) + held.expected ≤ held.states.reserved)
+room_left d o mid None n there is made one two expected used = tt
+room_left d None mid (Some p) n there is made one two expected used = cc
+room_left d (Some o) None (Some p) n there is made one two expected used = cc
+room_left d (Some o) (Some m) (Some p) n there is made one two expected used =
     let same : p.store ≡ o.store = grind (arith, ap home_store two, ap home_store one) in
-    omega (arith, is, made, used, ap (λ (x : ℕ). changes_in (store_at d x)) same)
+    omega (arith, is, made, used, expected, ap (λ (x : ℕ). changes_in (store_at d x)) same)
 
 -- a change of states after room was made for it
 pub sets_after : (o mid p : Option Held) (lo hi : ℕ) (state : State) → KeepsStates o mid → pins_in mid ≡ pins_in o
@@ -40,6 +40,7 @@ pub sets_after : (o mid p : Option Held) (lo hi : ℕ) (state : State) → Keeps
 sets_after o mid p lo hi state k pins s = record {
   home = s.home ∙ k.home;
   pins = s.pins ∙ pins;
+  expected = s.expected ∙ k.expected;
   fit = λ fit. s.fit (k.fit fit);
   room = omega (arith, s.room, k.room);
   states = record {
@@ -51,9 +52,9 @@ sets_after o mid p lo hi state k pins s = record {
 
 -- the same of a copy of the same store
 pub room_left_too : (d : DirectoryView) (o p q : Option Held) (n : ℕ) → IsSome o
-    → IfSome o (λ held. n ≡ changes_in (store_at d held.store) + 1) → IfSome q (λ held. n ≤ held.states.reserved + 1)
+    → IfSome o (λ held. n ≡ changes_in (store_at d held.store) + 1) → IfSome q (λ held. n + held.expected ≤ held.states.reserved + 1)
     → home_store (home_in p) ≡ home_store (home_in o) → home_in q ≡ home_in p
-    → IfSome q (λ held. changes_in (store_at d held.store) ≤ held.states.reserved)
+    → IfSome q (λ held. changes_in (store_at d held.store) + held.expected ≤ held.states.reserved)
 room_left_too d o p None n there is made one two = tt
 room_left_too d o None (Some q) n there is made one two = cc
 room_left_too d None p (Some q) n there is made one two = cc

@@ -1,5 +1,5 @@
 -- A directory is as sound with one store more, and the machine is like it.
-use Rattle.std.proofs.Common.{◌≡◌, ◌≢◌, ℕ, ◌<◌, ◌≤◌, ◌==◌, if◌then◌else◌, Bool, true, false, List, [], length, slice_index, Option, Some, None, IfSome, IsSome, IsSomeAnd, arith, ⊎_elim, refl, sym, subst, ◌∙◌, ap}
+use Rattle.std.proofs.Common.{◌≡◌, ◌≢◌, ℕ, ◌+◌, ◌<◌, ◌≤◌, ◌==◌, if◌then◌else◌, Bool, true, false, List, [], length, slice_index, Option, Some, None, IfSome, IsSome, IsSomeAnd, arith, ⊎_elim, refl, sym, subst, ◌∙◌, ap}
 use Rattle.std.proofs.lemmas.Bool.{cases_eq}
 use Rattle.sk_base.specs.declared.number.Ty.{Ty}
 use Rattle.sk_spaces.specs.declared.step.Step.TheVariants.{Store}
@@ -9,11 +9,12 @@ use Rattle.sk_spaces.specs.Blocks.{BlockView, IsWhole}
 use Rattle.sk_spaces.specs.Memories.{block_of, used_of}
 use Rattle.sk_copy_states.specs.declared.held.Held.{Held}
 use Rattle.sk_copy_states.specs.Held.{IsFit, mark_of}
-use Rattle.sk_copy_states.specs.Copies.{held_in, home_in, store_in, state_in, cell_in}
+use Rattle.sk_copy_states.specs.Copies.{held_in, home_in, store_in, state_in, cell_in, expected_in}
 use Rattle.sk_copy_states.specs.Stores.{StoreView, copies_in, changes_in, len_in, AreRising, HasTile, opened}
 use Rattle.sk_coherence_laws.specs.Directory.{DirectoryView, copy_at, store_at, cells_of_copy, block_home, IsSound}
 use Rattle.sk_coherence_laws.specs.Traced.{IsLike, IsLineOf, Opens}
 use Rattle.sk_coherence_laws.proofs.InsideLemmas.{inside_on}
+use Rattle.sk_coherence_laws.proofs.MailLemmas.{mailed-so, like-mail-kept}
 
 pub some_of : (o : Option MemoryLine) (P : MemoryLine → Type 0) → IsSomeAnd o P → IsSome o
 some_of None P holds = absurd holds
@@ -39,12 +40,12 @@ store_of_some (Some held) t is there = ap Some is
 store_of_some None t is there = cc
 
 room_open : (d n : DirectoryView) (o : Option Held) (id : ℕ) → changes_in (store_at n id) ≡ 0 → ((t : ℕ) → t ≢ id → store_at n t ≡ store_at d t)
-    → IfSome o (λ held. changes_in (store_at d held.store) ≤ held.states.reserved)
-    → IfSome o (λ held. changes_in (store_at n held.store) ≤ held.states.reserved)
+    → IfSome o (λ held. changes_in (store_at d held.store) + held.expected ≤ held.states.reserved)
+    → IfSome o (λ held. changes_in (store_at n held.store) + held.expected ≤ held.states.reserved)
 room_open d n None id none others room = tt
 room_open d n (Some held) id none others room = ⊎_elim
-    (λ (e : held.store ≡ id). omega (arith, none, ap (λ (x : ℕ). changes_in (store_at n x)) e))
-    (λ (ne : held.store ≢ id). subst (λ (o : Option StoreView). changes_in o ≤ held.states.reserved) (sym (others held.store ne)) room)
+    (λ (e : held.store ≡ id). omega (arith, none, room, ap (λ (x : ℕ). changes_in (store_at n x)) e))
+    (λ (ne : held.store ≢ id). subst (λ (o : Option StoreView). changes_in o + held.expected ≤ held.states.reserved) (sym (others held.store ne)) room)
     (cases_eq held.store id)
 
 module _ (d n : DirectoryView) (id : ℕ) (ty : Ty) (shape : List ℕ) (tile : Option ℕ) (o : Opens d n id (opened ty shape tile)) where
@@ -69,7 +70,7 @@ module _ (d n : DirectoryView) (id : ℕ) (ty : Ty) (shape : List ℕ) (tile : O
       none_here : IsSound d → len_in (store_at d id) ≤ len_in (store_at n id)
       none_here s = let none : len_in (store_at d id) ≡ 0 = ap len_in (s.new_stores id (omega (arith, o.number))) in omega (arith, none)
 
-  pub sound-open : IsSound d → IfSome tile (λ tile. 0 < tile) → n.owed ≤ n.ready → n.ready ≤ n.spaces.journal.spare → IsSound n
+  pub sound-open : IsSound d → IfSome tile (λ tile. 0 < tile) → n.owed ≤ n.ready → n.ready + n.aside ≤ n.spaces.journal.spare → IsSound n
   sound-open s positive owed ready = record {
     fit = λ q. subst (λ (x : Option Held). IfSome x IsFit) (sym (copy_same q)) (s.fit q);
     whole = λ q. subst (λ (x : Option BlockView). IfSome x IsWhole) (sym (cells_same q)) (s.whole q);
@@ -92,7 +93,7 @@ module _ (d n : DirectoryView) (id : ℕ) (ty : Ty) (shape : List ℕ) (tile : O
         (λ (e : t ≡ id). subst (λ (x : ℕ). IfSome (store_at n x) HasTile) (sym e) (subst (λ (x : Option StoreView). IfSome x HasTile) (sym o.stores.here) positive))
         (λ (ne : t ≢ id). subst (λ (x : Option StoreView). IfSome x HasTile) (sym (o.stores.others t ne)) (s.tiles t))
         (cases_eq t id);
-    room = λ q. subst (λ (x : Option Held). IfSome x (λ held. changes_in (store_at n held.store) ≤ held.states.reserved)) (sym (copy_same q))
+    room = λ q. subst (λ (x : Option Held). IfSome x (λ held. changes_in (store_at n held.store) + held.expected ≤ held.states.reserved)) (sym (copy_same q))
         (room_open d n (copy_at d q) id (ap changes_in o.stores.here) o.stores.others (s.room q));
     owed = owed;
     ready = ready;
@@ -106,6 +107,8 @@ module _ (d n : DirectoryView) (id : ℕ) (ty : Ty) (shape : List ℕ) (tile : O
           (ap (λ x. state_in x i) (sym (copy_same j)) ∙ a) (λ e. r (ap (λ x. state_in x i) (copy_same k) ∙ e))
           ∙ ap (λ x. cell_in x i) (sym (cells_same j));
     };
+    mailed = mailed-so d n s.mailed o.messages o.aside (ap (λ x. x.next) o.spaces.memories) (λ q. ap home_in (copy_same q)) (λ q. ap expected_in (copy_same q))
+        (λ q i own. record { at = q; store = ap store_in (sym (copy_same q)); owns = ap (λ x. state_in x i) (sym (copy_same q)) ∙ own; cell = ap (λ x. cell_in x i) (sym (cells_same q)) });
   }
 
   line_in : (m : Machine) → IsLike m d → (t : ℕ) → IfSome (store_at n t) (λ store. IsSomeAnd ((after m (Store id ty shape)).stores t) (IsLineOf store))
@@ -129,5 +132,6 @@ module _ (d n : DirectoryView) (id : ℕ) (ty : Ty) (shape : List ℕ) (tile : O
       marks = λ q i some. l.marks q i (subst (λ (x : Option Held). IsSome x) (copy_same q) some) ∙ ap (λ x. mark_of (state_in x i)) (sym (copy_same q));
       cells = λ q i readable. l.cells q i (λ e. readable (ap (λ x. state_in x i) (copy_same q) ∙ e)) ∙ ap (λ x. cell_in x i) (sym (cells_same q));
       used = λ space some. l.used space some ∙ ap (λ x. used_of x space) (sym o.spaces.memories);
+      messages = like-mail-kept m.messages d n l.messages o.messages;
     },
   )

@@ -13,6 +13,7 @@ use Rattle.sk_copy_states.specs.Stores.{before_write}
 use Rattle.sk_coherence_laws.specs.Owes.{OwesWrite}
 use Rattle.sk_coherence_laws.proofs.TracedWrite.{some_home}
 use Rattle.sk_coherence_laws.proofs.KeptLemmas.{coherent-kept}
+use Rattle.sk_coherence_laws.proofs.MailLemmas.{mailed-so, like-mail-kept}
 use Rattle.sk_coherence_laws.proofs.Reshapes.{Reshapes, sound-reshaped, like-reshaped}
 
 copies-owed : (o : Option StoreView) → copies_in (option_map before_write o) ≡ copies_in o
@@ -33,7 +34,7 @@ line-owed (Some store) line is = is
 
 -- the room of a copy of the store, and of any other one
 room_here : (d n : DirectoryView) (o p : Option Held) (room s : ℕ) → home_in p ≡ home_in o → store_in o ≡ Some s → HasRoomIn room p → changes_in (store_at n s) ≤ room
-    → IfSome p (λ held. changes_in (store_at n held.store) ≤ held.states.reserved)
+    → IfSome p (λ held. changes_in (store_at n held.store) + held.expected ≤ held.states.reserved)
 room_here d n o None room s home is has enough = tt
 room_here d n None (Some p) room s home is has enough = cc
 room_here d n (Some o) (Some p) room s home is has enough =
@@ -41,18 +42,18 @@ room_here d n (Some o) (Some p) room s home is has enough =
     omega (arith, has, enough, ap (λ (x : ℕ). changes_in (store_at n x)) at)
 
 room_there : (d n : DirectoryView) (o p : Option Held) (s : ℕ) → KeepsStates o p → store_in o ≢ Some s → ((t : ℕ) → t ≢ s → store_at n t ≡ store_at d t)
-    → IfSome o (λ held. changes_in (store_at d held.store) ≤ held.states.reserved)
-    → IfSome p (λ held. changes_in (store_at n held.store) ≤ held.states.reserved)
+    → IfSome o (λ held. changes_in (store_at d held.store) + held.expected ≤ held.states.reserved)
+    → IfSome p (λ held. changes_in (store_at n held.store) + held.expected ≤ held.states.reserved)
 room_there d n o None s k other same room = tt
 room_there d n None (Some p) s k other same room = let h = k.home in cc
 room_there d n (Some o) (Some p) s k other same room =
     let at : p.store ≡ o.store = grind (arith, ap home_store k.home) in
     let ne : p.store ≢ s = λ e. other (ap Some (sym at ∙ e)) in
-    omega (arith, room, k.room, ap (λ (x : ℕ). changes_in (store_at d x)) at, ap changes_in (same p.store ne))
+    omega (arith, room, k.room, k.expected, ap (λ (x : ℕ). changes_in (store_at d x)) at, ap changes_in (same p.store ne))
 
 module _ (d n : DirectoryView) (s copy room : ℕ) (sound : IsSound d) (o : OwesWrite d n s copy) (enough : changes_in (store_at n s) ≤ room)
     (made : (k : ℕ) → k < length (copies_in (store_at d s)) → HasRoomIn room (copy_at n (slice_index (copies_in (store_at d s)) k))) where
-  room_owed : (q : ℕ) → IfSome (copy_at n q) (λ held. changes_in (store_at n held.store) ≤ held.states.reserved)
+  room_owed : (q : ℕ) → IfSome (copy_at n q) (λ held. changes_in (store_at n held.store) + held.expected ≤ held.states.reserved)
   room_owed q = ⊎_elim
       (λ (e : store_in (copy_at d q) ≡ Some s). let c = sound.complete s q e in
       room_here d n (copy_at d q) (copy_at n q) room s (o.copies q).home e
@@ -89,13 +90,21 @@ module _ (d n : DirectoryView) (s copy room : ℕ) (sound : IsSound d) (o : Owes
   pub sound-owed : d.owed + 2 ≤ d.ready → IsSound n
   sound-owed more = sound-reshaped d n sound reshapes-owed
       (coherent-kept d n o.copies sound.coherent (λ q. ap (λ x. Rattle.sk_spaces.specs.Spaces.block_at x q) o.spaces))
+      (mailed-so d n sound.mailed o.messages o.aside (ap (λ x. x.memories.next) o.spaces) (λ q. (o.copies q).home) (λ q. (o.copies q).expected)
+      (λ q i own. record {
+        at = q;
+        store = sym (ap home_store (o.copies q).home);
+        owns = sym ((o.copies q).states i) ∙ own;
+        cell = ap (λ x. cell_in (Rattle.sk_spaces.specs.Spaces.block_at x q) i) (sym o.spaces);
+      }))
       (omega (arith, more, o.owed, o.ready))
-      (omega (arith, o.ready, sound.ready, ap (λ x. x.journal.spare) o.spaces))
+      (omega (arith, o.ready, o.aside, sound.ready, ap (λ x. x.journal.spare) o.spaces))
 
   pub like-owed : (m : Machine) → IsLike m d → IsLike m n
   like-owed m l = like-reshaped d n m m l reshapes-owed refl refl refl refl
       (λ q i some. l.marks q i (some_home (copy_at n q) (copy_at d q) (o.copies q).home some) ∙ ap mark_of (sym ((o.copies q).states i)))
       (λ q i readable. l.cells q i (λ e. readable ((o.copies q).states i ∙ e)) ∙ ap (λ x. cell_in (Rattle.sk_spaces.specs.Spaces.block_at x q) i) (sym o.spaces))
+      (like-mail-kept m.messages d n l.messages o.messages)
 
 pub pinned-more : (o p : Option Held) → IsSome o → IfSome o (λ held. p ≡ Some (record held { pins = held.pins + 1 })) → pins_in p ≡ pins_in o + 1
 pinned-more None p there is = cc

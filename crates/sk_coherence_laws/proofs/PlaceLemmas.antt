@@ -1,8 +1,10 @@
 -- A copy that is found, or made where there is room in the journal.
-use Rattle.std.proofs.Common.{◌≡◌, ◌≢◌, ℕ, ◌+◌, ◌-◌, ◌==◌, if◌then◌else◌, Bool, Option, Some, None, IsSome, arith, refl, sym, subst, ◌∙◌, ap}
+use Rattle.std.proofs.Common.{◌≡◌, ◌≢◌, ℕ, ◌+◌, ◌-◌, ◌==◌, if◌then◌else◌, Bool, Option, Some, None, IfSome, IsSome, arith, ⊎_elim, refl, sym, subst, ◌∙◌, ap}
+use Rattle.std.proofs.lemmas.Bool.{cases_eq}
 use Rattle.sk_spaces.specs.declared.step.Step.TheVariants.{Alloc}
 use Rattle.sk_spaces.specs.declared.faults.SpaceFault.{SpaceFault}
 use Rattle.sk_spaces.specs.declared.faults.SpaceFault.TheVariants.{NoRoom, Memory}
+use Rattle.sk_spaces.specs.Machine.{Home}
 use Rattle.sk_spaces.specs.Memories.{MemoriesView}
 use Rattle.sk_spaces.specs.Spaces.{SpacesView, NotesStep, IsSpaceFault}
 use Rattle.sk_copy_states.specs.declared.held.Held.{Held}
@@ -23,11 +25,15 @@ fault_same a b space lo hi (NoRoom used len capacity) same is =
     subst (λ (m : MemoriesView). Rattle.sk_spaces.specs.Memories.LacksRoom m space len × (lo + len ≡ hi) × (used ≡ Rattle.sk_spaces.specs.Memories.used_of m space) × (capacity ≡ m.capacity)) same is
 fault_same a b space lo hi Memory same is = tt
 
+none_lies : (h : Option Home) (space : ℕ) → h ≡ None → IfSome h (λ home. home.space ≡ space)
+none_lies h space none = subst (λ (h : Option Home). IfSome h (λ home. home.space ≡ space)) (sym none) tt
+
 -- nothing that is seen of copies and cells changed
 pub places-idle : (d n : DirectoryView) (space : ℕ) → Idles d n → Places d n space
 places-idle d n space i = record {
   kept = λ q there. i.copies q;
   used = λ at ne. ap (λ x. Rattle.sk_spaces.specs.Memories.used_of x at) i.spaces.memories;
+  made = λ q none. none_lies (home_in (copy_at n q)) space ((i.copies q).home ∙ ap home_in none);
 }
 
 other_space : (at space lo hi : ℕ) → at ≢ space → (if space == at then hi - lo else 0) ≡ 0
@@ -60,4 +66,8 @@ module _ (a b n : DirectoryView) (id s space lo hi : ℕ) (sa : IsSound a) (sb :
         let ne : q ≢ id = λ e. not_there (copy_at b q) (ap (copy_at b) e ∙ absent) (Rattle.sk_coherence_laws.proofs.TracedWrite.some_home (copy_at a q) (copy_at b q) (sym (i.copies q).home) there) in
         subst (λ (o : Option Held). KeepsStates (copy_at a q) o) (sym (adds.2.copies.others q ne)) (i.copies q);
     used = λ at ne. omega (arith, adds.2.memories.used at, other_space at space lo hi ne, ap (λ x. Rattle.sk_spaces.specs.Memories.used_of x at) i.spaces.memories);
+    made = λ q none. ⊎_elim
+        (λ (e : q ≡ id). subst (λ (h : Option Home). IfSome h (λ home. home.space ≡ space)) (sym (ap (λ (x : ℕ). home_in (copy_at n x)) e ∙ placed-home)) refl)
+        (λ (ne : q ≢ id). none_lies (home_in (copy_at n q)) space (ap home_in (adds.2.copies.others q ne) ∙ (i.copies q).home ∙ ap home_in none))
+        (cases_eq q id);
   }

@@ -16,6 +16,7 @@ placed-like m d l = record {
   copies = l.copies;
   new_copies = l.new_copies;
   used = l.used;
+  messages = l.messages;
 }
 
 pub like-placed : (m : Machine) (d : DirectoryView) → IsPlaced m d
@@ -30,4 +31,5 @@ like-placed m d p marks cells = record {
   marks = marks;
   cells = cells;
   used = p.used;
+  messages = p.messages;
 }

@@ -12,6 +12,7 @@ use Rattle.sk_coherence_laws.specs.Directory.{DirectoryView, copy_at, store_at, 
 use Rattle.sk_coherence_laws.specs.Traced.{IsLineOf, TracesStep}
 use Rattle.sk_coherence_laws.specs.Rebinds.{Rebinds}
 use Rattle.sk_copy_states.specs.Stores.{anew}
+use Rattle.sk_coherence_laws.proofs.MailLemmas.{like-mail-spoilt}
 use Rattle.sk_coherence_laws.proofs.StaleLemmas as staling
 use Rattle.sk_coherence_laws.proofs.OpenLemmas.{some_of}
 use Rattle.sk_coherence_laws.proofs.SoundWrite.{room_same, room_other}
@@ -61,10 +62,10 @@ module _ (d n : DirectoryView) (s : ℕ) (sound : IsSound d) (r : Rebinds d n s)
   reshapes-rebound some = record {
     homes = homes;
     fit = staling.fit_staled d n s 0 len r.states r.spaces.memories sound.fit;
-    room = λ q. staling.by_store d n s 0 len r.states r.spaces.memories (IfSome (copy_at n q) (λ held. changes_in (store_at n held.store) ≤ held.states.reserved)) q
-        (λ e. room_same d n (copy_at d q) (copy_at n q) s (sound.room q) (homes q) e (r.states.staled q e).room (less some))
+    room = λ q. staling.by_store d n s 0 len r.states r.spaces.memories (IfSome (copy_at n q) (λ held. changes_in (store_at n held.store) + held.expected ≤ held.states.reserved)) q
+        (λ e. room_same d n (copy_at d q) (copy_at n q) s (sound.room q) (homes q) (r.states.staled q e).expected e (r.states.staled q e).room (less some))
         (λ ne. room_other d n (copy_at n q) s
-        (subst (λ (o : Option Held). IfSome o (λ held. changes_in (store_at d held.store) ≤ held.states.reserved)) (sym (r.states.others q ne)) (sound.room q))
+        (subst (λ (o : Option Held). IfSome o (λ held. changes_in (store_at d held.store) + held.expected ≤ held.states.reserved)) (sym (r.states.others q ne)) (sound.room q))
         (λ e. ne (sym (ap home_store (homes q)) ∙ e)) r.stores.others);
     listed = at_store (λ x y. copies_in y ≡ copies_in x) copies-anew (λ x. refl);
     tiles = λ t. at_store (λ x y. IfSome x HasTile → IfSome y HasTile) tile-anew (λ x is. is) t (sound.tiles t);
@@ -82,11 +83,13 @@ module _ (d n : DirectoryView) (s : ℕ) (sound : IsSound d) (r : Rebinds d n s)
 
   pub sound-rebound : 0 < changes_in (store_at d s) → IsSound n
   sound-rebound some = sound-reshaped d n sound (reshapes-rebound some) (staling.coherent_staled d n s 0 len r.states r.spaces.memories sound.coherent)
-      (omega (arith, r.owed, r.ready, sound.owed)) (omega (arith, r.ready, sound.ready, r.spaces.noted.spare))
+      (staling.mailed_staled d n s 0 len r.states r.spaces.memories sound.mailed r.messages r.aside)
+      (omega (arith, r.owed, r.ready, sound.owed)) (omega (arith, r.ready, r.aside, sound.ready, r.spaces.noted.spare))
 
   pub traced-rebound : 0 < changes_in (store_at d s) → IsSome (store_at d s) → TracesStep d n (line.Stale s 0 len)
   traced-rebound some there m l = (
     (some_of m.memory _ l.memory, staling.inside-line (store_at d s) (m.stores s) 0 len there (omega arith) (omega arith) (l.stores s)),
     like-reshaped d n m (stales s 0 len m) l (reshapes-rebound some) refl refl refl refl (staling.mark_staled d n s 0 len r.states r.spaces.memories m l)
-        (λ q i readable. l.cells q i (staling.readable_before d n s 0 len r.states r.spaces.memories q i readable) ∙ ap (λ o. cell_in o i) (sym (cells_same q))),
+        (λ q i readable. l.cells q i (staling.readable_before d n s 0 len r.states r.spaces.memories q i readable) ∙ ap (λ o. cell_in o i) (sym (cells_same q)))
+        (like-mail-spoilt m.messages d n s 0 len l.messages r.messages),
   )

@@ -16,6 +16,7 @@ use Rattle.sk_coherence_laws.specs.Steps.{Traces}
 use Rattle.sk_coherence_laws.specs.Retires.{Stales, Thins, Retires, IsFreeing, IsRetiring, IsLikeBut, Leads}
 use Rattle.sk_coherence_laws.proofs.FillSums.{traces-idle}
 use Rattle.sk_coherence_laws.proofs.TracesLemmas.{traces-trans}
+use Rattle.sk_coherence_laws.proofs.MailLemmas.{spoilt-between}
 use Rattle.sk_coherence_laws.proofs.StaleLemmas.{homes}
 use Rattle.sk_coherence_laws.proofs.LeadsLemmas.{leads-trans, leads-map, leads-end, leads-one, traces-leads}
 use Rattle.sk_coherence_laws.proofs.LeaveLemmas.{store_among, but-like, like-but, none_among, gone_among}
@@ -25,6 +26,7 @@ sets_kept : (o p w : Option Held) (lo hi : ℕ) (to : State) → KeepsStates o p
 sets_kept o p w lo hi to k pins y = record {
   home = y.home ∙ k.home;
   pins = y.pins ∙ pins;
+  expected = y.expected ∙ k.expected;
   fit = λ fit. y.fit (k.fit fit);
   room = omega (arith, k.room, y.room);
   states = record {
@@ -71,6 +73,8 @@ module _ (a j t n : DirectoryView) (s lo hi : ℕ) (sound : IsSound t) (i : Idle
     next = th.next ∙ r.next ∙ i.next;
     owed = th.owed ∙ r.owed ∙ i.owed;
     named = th.named ∙ r.named ∙ i.named;
+    messages = spoilt-between a.messages j.messages t.messages n.messages s lo hi i.messages r.messages th.messages;
+    aside = th.aside ∙ r.aside ∙ i.aside;
     next_copy = th.next_copy ∙ ap (λ y. y.next) r.spaces.memories ∙ ap (λ y. y.next) i.spaces.memories;
     ranks = th.ranks ∙ ap (λ y. y.ranks) r.spaces.memories ∙ ap (λ y. y.ranks) i.spaces.memories;
     capacity = th.capacity ∙ ap (λ y. y.capacity) r.spaces.memories ∙ ap (λ y. y.capacity) i.spaces.memories;

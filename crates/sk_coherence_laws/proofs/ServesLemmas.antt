@@ -6,7 +6,7 @@ use Rattle.sk_spaces.specs.Machine.{Home}
 use Rattle.sk_spaces.specs.Memories.{MemoriesView, block_of}
 use Rattle.sk_spaces.specs.Spaces.{Stays}
 use Rattle.sk_copy_states.specs.declared.held.Held.{Held}
-use Rattle.sk_copy_states.specs.Copies.{KeepsStates, home_in, home_store, store_in, state_in, cell_in, pins_in}
+use Rattle.sk_copy_states.specs.Copies.{KeepsStates, home_in, home_store, store_in, state_in, cell_in, pins_in, expected_in}
 use Rattle.sk_copy_states.specs.Stores.{StoreView, store_of}
 use Rattle.sk_coherence_laws.specs.Directory.{DirectoryView, copy_at, store_at, cells_of_copy, IsSound}
 use Rattle.sk_coherence_laws.specs.Moves.{IsStaleAt, Fills, Idles}
@@ -29,6 +29,7 @@ pub grows_same : (d n : DirectoryView) (q : ℕ) → copy_at n q ≡ copy_at d q
 grows_same d n q copy cells = record {
   home = ap home_in copy;
   pins = ap pins_in copy;
+  expected = ap expected_in copy;
   readable = λ i r e. r (sym (ap (λ o. state_in o i) copy) ∙ e);
   cells = λ i r. ap (λ o. cell_in o i) cells;
 }
@@ -46,6 +47,7 @@ pub grows-trans : (a b n : DirectoryView) (q : ℕ) → GrowsAt a b q → GrowsA
 grows-trans a b n q g h = record {
   home = h.home ∙ g.home;
   pins = h.pins ∙ g.pins;
+  expected = h.expected ∙ g.expected;
   readable = λ i r. h.readable i (g.readable i r);
   cells = λ i r. h.cells i (g.readable i r) ∙ g.cells i r;
 }
@@ -78,17 +80,17 @@ module _ (a b n : DirectoryView) (sound : IsSound a) (x : Serves a b) (y : Serve
       (λ (w : WasEvicted a b q). inr (gone_still q there w))
       (x.stays q there)
 
-  fresh_on : (q : ℕ) → copy_at a q ≡ None → IsSome (copy_at n q) → (a.spaces.memories.next ≤ q) × (pins_in (copy_at n q) ≡ 0)
+  fresh_on : (q : ℕ) → copy_at a q ≡ None → IsSome (copy_at n q)
+      → (a.spaces.memories.next ≤ q) × (pins_in (copy_at n q) ≡ 0) × (expected_in (copy_at n q) ≡ 0)
   fresh_on q none some = ⊎_elim
       (λ (mid : IsSome (copy_at b q)).
-      let f = x.fresh q none mid in (
-        f.0,
-        ⊎_elim
-            (λ (h : GrowsAt b n q). h.pins ∙ f.1)
-            (λ (w : WasEvicted b n q). absurd (not_there (copy_at n q) w.gone some))
-            (y.stays q mid),
-      ))
-      (λ (mid : copy_at b q ≡ None). let f = y.fresh q mid some in (omega (arith, f.0, x.next_copy), f.1))
+      let f = x.fresh q none mid in
+      let still : (pins_in (copy_at n q) ≡ 0) × (expected_in (copy_at n q) ≡ 0) = ⊎_elim
+      (λ (h : GrowsAt b n q). (h.pins ∙ f.1, h.expected ∙ f.2))
+      (λ (w : WasEvicted b n q). absurd (not_there (copy_at n q) w.gone some))
+      (y.stays q mid) in
+      (f.0, still.0, still.1))
+      (λ (mid : copy_at b q ≡ None). let f = y.fresh q mid some in (omega (arith, f.0, x.next_copy), f.1, f.2))
       (there_or (copy_at b q))
 
   pub serves-trans : Serves a n
@@ -103,6 +105,8 @@ module _ (a b n : DirectoryView) (sound : IsSound a) (x : Serves a b) (y : Serve
     next = y.next ∙ x.next;
     owed = y.owed ∙ x.owed;
     named = y.named ∙ x.named;
+    messages = y.messages ∙ x.messages;
+    aside = y.aside ∙ x.aside;
     next_copy = omega (arith, x.next_copy, y.next_copy);
     ranks = y.ranks ∙ x.ranks;
     capacity = y.capacity ∙ x.capacity;
@@ -113,14 +117,16 @@ pub grows-kept : (d n : DirectoryView) → ((q : ℕ) → KeepsStates (copy_at d
 grows-kept d n kept pins memories q = record {
   home = (kept q).home;
   pins = pins q;
+  expected = (kept q).expected;
   readable = λ i r e. r (sym ((kept q).states i) ∙ e);
   cells = λ i r. ap (λ x. cell_in (block_of x q) i) memories;
 }
 
 -- where states and cells are as before
 pub serves-kept : (d n : DirectoryView) → ((q : ℕ) → KeepsStates (copy_at d q) (copy_at n q)) → ((q : ℕ) → pins_in (copy_at n q) ≡ pins_in (copy_at d q))
-    → ((t : ℕ) → store_at n t ≡ store_at d t) → n.spaces.memories ≡ d.spaces.memories → n.next ≡ d.next → n.owed ≡ d.owed → n.named ≡ d.named → Serves d n
-serves-kept d n kept pins stores memories next owed named =
+    → ((t : ℕ) → store_at n t ≡ store_at d t) → n.spaces.memories ≡ d.spaces.memories → n.next ≡ d.next → n.owed ≡ d.owed → n.named ≡ d.named
+    → n.messages ≡ d.messages → n.aside ≡ d.aside → Serves d n
+serves-kept d n kept pins stores memories next owed named messages aside =
     let cells : (q : ℕ) → cells_of_copy n q ≡ cells_of_copy d q = λ q. ap (λ x. block_of x q) memories in
     record {
       stays = λ q there. inl (grows-kept d n kept pins memories q);
@@ -131,13 +137,15 @@ serves-kept d n kept pins stores memories next owed named =
       next = next;
       owed = owed;
       named = named;
+      messages = messages;
+      aside = aside;
       next_copy = omega (arith, ap (λ (x : MemoriesView). x.next) memories);
       ranks = ap (λ (x : MemoriesView). x.ranks) memories;
       capacity = ap (λ (x : MemoriesView). x.capacity) memories;
     }
 
 pub serves-idle : (d n : DirectoryView) → Idles d n → Serves d n
-serves-idle d n i = serves-kept d n i.copies i.pins i.stores i.spaces.memories i.next i.owed i.named
+serves-idle d n i = serves-kept d n i.copies i.pins i.stores i.spaces.memories i.next i.owed i.named i.messages i.aside
 
 pub grows-idle : (d n : DirectoryView) → Idles d n → (q : ℕ) → GrowsAt d n q
 grows-idle d n i = grows-kept d n i.copies i.pins i.spaces.memories
@@ -145,13 +153,15 @@ grows-idle d n i = grows-kept d n i.copies i.pins i.spaces.memories
 -- where room was made in the journal
 pub idle-reserve : (d n : DirectoryView) → n ≡ record d { spaces = n.spaces; ready = n.ready } → Stays d.spaces n.spaces d.spaces.named → d.ready ≤ n.ready → Idles d n
 idle-reserve d n same stays ready = record {
-  copies = λ q. subst (λ (o : Option Held). KeepsStates (copy_at d q) o) (sym (ap (λ x. copy_at x q) same)) (record { home = refl; fit = λ fit. fit; room = omega arith; states = λ i. refl });
+  copies = λ q. subst (λ (o : Option Held). KeepsStates (copy_at d q) o) (sym (ap (λ x. copy_at x q) same)) (record { home = refl; expected = refl; fit = λ fit. fit; room = omega arith; states = λ i. refl });
   pins = λ q. ap (λ x. pins_in (copy_at x q)) same;
   stores = λ t. ap (λ x. store_at x t) same;
   next = ap (λ (x : DirectoryView). x.next) same;
   owed = ap (λ (x : DirectoryView). x.owed) same;
   named = ap (λ (x : DirectoryView). x.named) same;
   ready = ready;
+  messages = ap (λ (x : DirectoryView). x.messages) same;
+  aside = ap (λ (x : DirectoryView). x.aside) same;
   spaces = stays;
 }
 
@@ -179,6 +189,10 @@ module _ (d n : DirectoryView) (from to lo hi : ℕ) (f : Fills d n from to lo h
         (λ (e : q ≡ to). subst (λ (x : ℕ). pins_in (copy_at n x) ≡ pins_in (copy_at d x)) (sym e) f.target.pins)
         (λ (ne : q ≢ to). ap pins_in (f.others q ne))
         (cases_eq q to);
+    expected = ⊎_elim
+        (λ (e : q ≡ to). subst (λ (x : ℕ). expected_in (copy_at n x) ≡ expected_in (copy_at d x)) (sym e) f.target.expected)
+        (λ (ne : q ≢ to). ap expected_in (f.others q ne))
+        (cases_eq q to);
     readable = λ i r. fill_place (state_in (copy_at n q) i ≢ Stale) q i
         (λ e above below s. valid_not_stale (sym (valid_there q i e above below) ∙ s))
         (λ state cell s. r (sym state ∙ s));
@@ -201,6 +215,8 @@ module _ (d n : DirectoryView) (from to lo hi : ℕ) (f : Fills d n from to lo h
     next = f.rest.next;
     owed = f.rest.owed;
     named = f.rest.named;
+    messages = f.rest.messages;
+    aside = f.rest.aside;
     next_copy = omega (arith, f.rest.next_copy);
     ranks = f.rest.ranks;
     capacity = f.rest.capacity;
@@ -217,7 +233,7 @@ serves-add d n id s space lo hi st held sound owed named a =
     record {
       stays = λ q there. inl (grows_same d n q (a.copies.others q (old_one q there)) (a.memories.blocks.others q (old_one q there)));
       fresh = λ q none some. ⊎_elim
-          (λ (e : q ≡ id). (omega (arith, e, a.memories.number), ap pins_in (ap (copy_at n) e ∙ a.copies.here) ∙ a.pins))
+          (λ (e : q ≡ id). (omega (arith, e, a.memories.number), ap pins_in (ap (copy_at n) e ∙ a.copies.here) ∙ a.pins, ap expected_in (ap (copy_at n) e ∙ a.copies.here) ∙ a.expected))
           (λ (ne : q ≢ id). absurd (not_there (copy_at n q) (a.copies.others q ne ∙ none) some))
           (cases_eq q id);
       owned = λ q i own. let ne = some_of_state q i own in owner_same d n q i (a.copies.others q ne) (a.memories.blocks.others q ne) own;
@@ -230,6 +246,8 @@ serves-add d n id s space lo hi st held sound owed named a =
       next = a.next;
       owed = owed;
       named = named;
+      messages = a.messages;
+      aside = a.aside;
       next_copy = omega (arith, a.memories.next);
       ranks = a.memories.ranks;
       capacity = a.memories.capacity;

@@ -1,25 +1,29 @@
 -- A directory is as sound after a write.
-use Rattle.std.proofs.Common.{◌≡◌, ◌≢◌, ℕ, ℤ, ◌+◌, ◌-◌, ◌<◌, ◌≤◌, List, length, slice_index, slice_index_or, Option, Some, None, IfSome, IsSome, Bool, true, false, nat_lt, pos, arith, ⊎_elim, refl, sym, subst, ◌∙◌, ap}
-use Rattle.std.proofs.lemmas.Bool.{cases_eq}
+use Rattle.std.proofs.Common.{◌≡◌, ◌≢◌, ℕ, ℤ, ◌+◌, ◌-◌, ◌<◌, ◌≤◌, List, length, slice_index, slice_index_or, Option, Some, None, IfSome, IsSome, Bool, true, false, nat_lt, pos, arith, ⊎_elim, refl, inl, inr, sym, subst, ◌∙◌, ap, ◌⊎◌}
+use Rattle.std.proofs.lemmas.Bool.{cases_eq, cases_lt}
 use Rattle.std.proofs.lemmas.Grind.{common_steps}
 use Rattle.std.specs.Option.{option_map}
+use Rattle.sk_ranges.specs.declared.state.State.TheVariants.{Owner}
 use Rattle.sk_spaces.specs.declared.step.Step.{Step}
 use Rattle.sk_spaces.specs.Blocks.{BlockView, IsWhole, Reaches, overwritten, written, cell_of}
 use Rattle.sk_spaces.specs.Spaces.{Changes}
 use Rattle.sk_copy_states.specs.declared.held.Held.{Held}
 use Rattle.sk_copy_states.specs.Held.{IsFit}
-use Rattle.sk_copy_states.specs.Copies.{OwnsAlone, ReachesIn, IsReady, home_in, home_store, store_in, cell_in, room_in}
+use Rattle.sk_copy_states.specs.Copies.{OwnsAlone, ReachesIn, IsReady, home_in, home_store, store_in, state_in, cell_in, expected_in, room_in}
 use Rattle.sk_copy_states.specs.Stores.{StoreView, copies_in, changes_in, after_write, UsesWrite, AreRising, HasTile, len_in}
 use Rattle.sk_coherence_laws.specs.Directory.{DirectoryView, copy_at, store_at, cells_of_copy, block_home, IsSound}
 use Rattle.sk_coherence_laws.specs.Writes.{WritesIn}
+use Rattle.sk_messages.specs.Messages.{Spoils}
+use Rattle.sk_coherence_laws.specs.Serves.{HasOwner}
 use Rattle.sk_coherence_laws.proofs.InsideLemmas.{inside_on}
 use Rattle.sk_coherence_laws.proofs.StateLemmas.{same_store}
 use Rattle.sk_coherence_laws.proofs.CellLemmas.{over_before, over_inside, over_after}
+use Rattle.sk_coherence_laws.proofs.MailLemmas.{mailed-spoilt-so}
 use Rattle.sk_coherence_laws.proofs.WriteLemmas as write
 
 -- what a copy has room for
 pub ready_of : (d : DirectoryView) (o : Option Held) (s : ℕ) → IfSome o IsFit
-    → IfSome o (λ held. changes_in (store_at d held.store) ≤ held.states.reserved)
+    → IfSome o (λ held. changes_in (store_at d held.store) + held.expected ≤ held.states.reserved)
     → store_in o ≡ Some s → 0 < changes_in (store_at d s) → IsReady 1 o
 ready_of d None s fit room is some = tt
 ready_of d (Some held) s fit room is some =
@@ -91,18 +95,18 @@ module _ (b : BlockView) (lo : ℕ) (xs : List ℤ) (whole : IsWhole b) (reaches
     after = λ i above. after_in i (nat_lt i b.lo) refl above;
   }
 
-writes_option : (o p : Option BlockView) (lo : ℕ) (xs : List ℤ) → p ≡ option_map (written lo xs) o → IfSome o IsWhole
+pub writes_option : (o p : Option BlockView) (lo : ℕ) (xs : List ℤ) → p ≡ option_map (written lo xs) o → IfSome o IsWhole
     → IfSome o (Reaches lo (lo + length xs)) → IsSome o → WritesIn (cell_in o) (cell_in p) lo (lo + length xs) xs
 writes_option None p lo xs is whole reaches there = cc
 writes_option (Some b) p lo xs is whole reaches there =
     subst (λ (q : Option BlockView). WritesIn (cell_of b) (cell_in q) lo (lo + length xs) xs) (sym is) (writes_in b lo xs whole reaches)
 
-whole-option : (o p : Option BlockView) (lo : ℕ) (xs : List ℤ) → p ≡ option_map (written lo xs) o → IfSome o IsWhole
+pub whole-option : (o p : Option BlockView) (lo : ℕ) (xs : List ℤ) → p ≡ option_map (written lo xs) o → IfSome o IsWhole
     → IfSome o (Reaches lo (lo + length xs)) → IfSome p IsWhole
 whole-option None p lo xs is whole reaches = subst (λ (q : Option BlockView). IfSome q IsWhole) (sym is) tt
 whole-option (Some b) p lo xs is whole reaches = subst (λ (q : Option BlockView). IfSome q IsWhole) (sym is) (whole-written b lo xs whole reaches)
 
-home-option : (o : Option BlockView) (lo : ℕ) (xs : List ℤ) → block_home (option_map (written lo xs) o) ≡ block_home o
+pub home-option : (o : Option BlockView) (lo : ℕ) (xs : List ℤ) → block_home (option_map (written lo xs) o) ≡ block_home o
 home-option None lo xs = refl
 home-option (Some b) lo xs = refl
 
@@ -131,24 +135,24 @@ store_is : (held : Held) (s : ℕ) → store_in (Some held) ≡ Some s → held.
 store_is held s is = grind arith
 
 pub room_same : (d n : DirectoryView) (o p : Option Held) (s : ℕ)
-    → IfSome o (λ held. changes_in (store_at d held.store) ≤ held.states.reserved)
-    → home_in p ≡ home_in o → store_in o ≡ Some s → room_in o ≤ room_in p + 1
+    → IfSome o (λ held. changes_in (store_at d held.store) + held.expected ≤ held.states.reserved)
+    → home_in p ≡ home_in o → expected_in p ≡ expected_in o → store_in o ≡ Some s → room_in o ≤ room_in p + 1
     → changes_in (store_at n s) + 1 ≤ changes_in (store_at d s)
-    → IfSome p (λ held. changes_in (store_at n held.store) ≤ held.states.reserved)
-room_same d n o None s room home is used less = tt
-room_same d n None (Some p) s room home is used less = cc
-room_same d n (Some o) (Some p) s room home is used less =
+    → IfSome p (λ held. changes_in (store_at n held.store) + held.expected ≤ held.states.reserved)
+room_same d n o None s room home expected is used less = tt
+room_same d n None (Some p) s room home expected is used less = cc
+room_same d n (Some o) (Some p) s room home expected is used less =
     let one : o.store ≡ s = store_is o s is in
     let two : p.store ≡ s = store_is p s (ap home_store home ∙ is) in
-    omega (arith, room, used, less, ap (λ (x : ℕ). changes_in (store_at d x)) one, ap (λ (x : ℕ). changes_in (store_at n x)) two)
+    omega (arith, room, used, less, expected, ap (λ (x : ℕ). changes_in (store_at d x)) one, ap (λ (x : ℕ). changes_in (store_at n x)) two)
 
 pub room_other : (d n : DirectoryView) (p : Option Held) (s : ℕ)
-    → IfSome p (λ held. changes_in (store_at d held.store) ≤ held.states.reserved)
+    → IfSome p (λ held. changes_in (store_at d held.store) + held.expected ≤ held.states.reserved)
     → store_in p ≢ Some s → ((t : ℕ) → t ≢ s → store_at n t ≡ store_at d t)
-    → IfSome p (λ held. changes_in (store_at n held.store) ≤ held.states.reserved)
+    → IfSome p (λ held. changes_in (store_at n held.store) + held.expected ≤ held.states.reserved)
 room_other d n None s room other same = tt
 room_other d n (Some p) s room other same =
-    subst (λ (o : Option StoreView). changes_in o ≤ p.states.reserved) (sym (same p.store (λ e. other (ap Some e)))) room
+    subst (λ (o : Option StoreView). changes_in o + p.expected ≤ p.states.reserved) (sym (same p.store (λ e. other (ap Some e)))) room
 
 module _ (d n : DirectoryView) (c lo : ℕ) (xs : List ℤ) (s : ℕ) (step : Step) (sound : IsSound d)
     (of_store : store_in (copy_at d c) ≡ Some s)
@@ -215,23 +219,65 @@ module _ (d n : DirectoryView) (c lo : ℕ) (xs : List ℤ) (s : ℕ) (step : St
   changes_less : 0 < changes_in (store_at d s) → changes_in (store_at n s) + 1 ≤ changes_in (store_at d s)
   changes_less some = omega (arith, ap changes_in u.here ∙ changes-option (store_at d s), some)
 
-  room_kept : 0 < changes_in (store_at d s) → (q : ℕ) → IfSome (copy_at n q) (λ held. changes_in (store_at n held.store) ≤ held.states.reserved)
+  room_kept : 0 < changes_in (store_at d s) → (q : ℕ) → IfSome (copy_at n q) (λ held. changes_in (store_at n held.store) + held.expected ≤ held.states.reserved)
   room_kept some q = ⊎_elim
-      (λ (e : q ≡ c). subst (λ (x : ℕ). IfSome (copy_at n x) (λ held. changes_in (store_at n held.store) ≤ held.states.reserved)) (sym e)
-      (room_same d n (copy_at d c) (copy_at n c) s (sound.room c) (homes_kept c) of_store w.own.room (changes_less some)))
+      (λ (e : q ≡ c). subst (λ (x : ℕ). IfSome (copy_at n x) (λ held. changes_in (store_at n held.store) + held.expected ≤ held.states.reserved)) (sym e)
+      (room_same d n (copy_at d c) (copy_at n c) s (sound.room c) (homes_kept c) w.own.expected of_store w.own.room (changes_less some)))
       (λ (ne : q ≢ c). ⊎_elim
       (λ (same : store_in (copy_at d q) ≡ store_in (copy_at d c)).
-      room_same d n (copy_at d q) (copy_at n q) s (sound.room q) (homes_kept q) (same ∙ of_store) (w.fellows q ne same).room (changes_less some))
+      room_same d n (copy_at d q) (copy_at n q) s (sound.room q) (homes_kept q) (w.fellows q ne same).expected (same ∙ of_store) (w.fellows q ne same).room (changes_less some))
       (λ (other : store_in (copy_at d q) ≢ store_in (copy_at d c)).
       room_other d n (copy_at n q) s
-      (subst (λ (o : Option Held). IfSome o (λ held. changes_in (store_at d held.store) ≤ held.states.reserved)) (sym (w.others q other)) (sound.room q))
+      (subst (λ (o : Option Held). IfSome o (λ held. changes_in (store_at d held.store) + held.expected ≤ held.states.reserved)) (sym (w.others q other)) (sound.room q))
       (λ e. other (sym (stores_kept q) ∙ e ∙ sym of_store)) u.others)
       (same_store (store_in (copy_at d q)) (store_in (copy_at d c))))
       (cases_eq q c)
 
+  expected_kept : (q : ℕ) → expected_in (copy_at n q) ≡ expected_in (copy_at d q)
+  expected_kept q = ⊎_elim
+      (λ (e : q ≡ c). subst (λ (x : ℕ). expected_in (copy_at n x) ≡ expected_in (copy_at d x)) (sym e) w.own.expected)
+      (λ (ne : q ≢ c). ⊎_elim
+      (λ (same : store_in (copy_at d q) ≡ store_in (copy_at d c)). (w.fellows q ne same).expected)
+      (λ (other : store_in (copy_at d q) ≢ store_in (copy_at d c)). ap expected_in (w.others q other))
+      (same_store (store_in (copy_at d q)) (store_in (copy_at d c))))
+      (cases_eq q c)
+
+  abbrev WrittenOrOwned : ℕ → ℕ → Type 0
+  WrittenOrOwned q i = ((store_in (copy_at n q) ≡ Some s) × (lo ≤ i) × (i < lo + length xs)) ⊎ HasOwner n d q i
+
+  owner_out : (q i : ℕ) → (i < lo) ⊎ (lo + length xs ≤ i) → state_in (copy_at n q) i ≡ Owner → WrittenOrOwned q i
+  owner_out q i out own = inr (record {
+    at = q;
+    store = sym (stores_kept q);
+    owns = sym (write.state_outside (copy_at d) (copy_at n) (cells_of_copy d) (cells_of_copy n) c lo (lo + length xs) xs w values ch.memories.blocks.others q i out) ∙ own;
+    cell = sym (write.cell_outside (copy_at d) (copy_at n) (cells_of_copy d) (cells_of_copy n) c lo (lo + length xs) xs w values ch.memories.blocks.others q i out);
+  })
+
+  owner_in : (q i : ℕ) → lo ≤ i → i < lo + length xs → state_in (copy_at n q) i ≡ Owner → WrittenOrOwned q i
+  owner_in q i above below own = ⊎_elim
+      (λ (e : q ≡ c). inl (stores_kept q ∙ ap (λ x. store_in (copy_at d x)) e ∙ of_store, above, below))
+      (λ (other : store_in (copy_at d q) ≢ store_in (copy_at d c)). inr (record {
+        at = q;
+        store = sym (stores_kept q);
+        owns = sym (ap (λ o. state_in o i) (w.others q other)) ∙ own;
+        cell = sym (ap (λ o. cell_in o i) (ch.memories.blocks.others q (λ e. other (ap (λ x. store_in (copy_at d x)) e))));
+      }))
+      (write.owner_now (copy_at d) (copy_at n) (cells_of_copy d) (cells_of_copy n) c lo (lo + length xs) xs w values ch.memories.blocks.others q i above below own)
+
+  -- an owner has what was written, or what an owner had before
+  owner_before : (q i : ℕ) → state_in (copy_at n q) i ≡ Owner → WrittenOrOwned q i
+  owner_before q i own = ⊎_elim
+      (λ (x : i < lo). owner_out q i (inl x) own)
+      (λ (x : lo ≤ i). ⊎_elim
+      (λ (y : i < lo + length xs). owner_in q i x y own)
+      (λ (y : lo + length xs ≤ i). owner_out q i (inr y) own)
+      (cases_lt i (lo + length xs)))
+      (cases_lt i lo)
+
   -- a directory is as sound after a write
-  pub sound-write : 0 < changes_in (store_at d s) → 0 < d.owed → n.owed + 1 ≤ d.owed → n.ready ≡ d.ready - 1 → n.next ≡ d.next → IsSound n
-  sound-write some owed left less next = record {
+  pub sound-write : 0 < changes_in (store_at d s) → 0 < d.owed → n.owed + 1 ≤ d.owed → n.ready ≡ d.ready - 1 → n.next ≡ d.next
+      → Spoils d.messages n.messages s lo (lo + length xs) → n.aside ≡ d.aside → IsSound n
+  sound-write some owed left less next spoilt aside = record {
     fit = fit_kept;
     whole = whole_kept;
     tied = λ q. block_kept q ∙ sound.tied q ∙ sym (homes_kept q);
@@ -245,7 +291,7 @@ module _ (d n : DirectoryView) (c lo : ℕ) (xs : List ℤ) (s : ℕ) (step : St
     rising = λ t. subst AreRising (sym (copies_kept t)) (sound.rising t);
     room = room_kept some;
     owed = omega (arith, left, less, owed, sound.owed);
-    ready = omega (arith, less, owed, sound.owed, sound.ready, ch.noted.spare);
+    ready = omega (arith, less, owed, aside, sound.owed, sound.ready, ch.noted.spare);
     new_copies = λ q above. none_of_home (copy_at n q) (homes_kept q ∙ ap home_in (sound.new_copies q (omega (arith, above, ch.memories.next))));
     new_stores = λ t above. ⊎_elim
         (λ (e : t ≡ s). subst (λ (x : ℕ). store_at n x ≡ None) (sym e)
@@ -253,6 +299,7 @@ module _ (d n : DirectoryView) (c lo : ℕ) (xs : List ℤ) (s : ℕ) (step : St
         (λ (ne : t ≢ s). u.others t ne ∙ sound.new_stores t (omega (arith, above, next)))
         (cases_eq t s);
     coherent = write.coherent (copy_at d) (copy_at n) (cells_of_copy d) (cells_of_copy n) c lo (lo + length xs) xs w values ch.memories.blocks.others sound.coherent;
+    mailed = mailed-spoilt-so d n s lo (lo + length xs) sound.mailed spoilt aside ch.memories.next homes_kept expected_kept owner_before;
   }
 
 -- what is true of a name that is there

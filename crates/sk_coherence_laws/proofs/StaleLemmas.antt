@@ -9,11 +9,14 @@ use Rattle.sk_spaces.specs.Blocks.{IsWhole}
 use Rattle.sk_spaces.specs.Memories.{block_of, used_of}
 use Rattle.sk_copy_states.specs.declared.held.Held.{Held}
 use Rattle.sk_copy_states.specs.Held.{IsFit, mark_of}
-use Rattle.sk_copy_states.specs.Copies.{StalesAll, HasRoomIn, home_in, home_store, store_in, state_in, cell_in, room_in}
+use Rattle.sk_copy_states.specs.Copies.{StalesAll, HasRoomIn, home_in, home_store, store_in, state_in, cell_in, expected_in, room_in}
 use Rattle.sk_copy_states.specs.Stores.{StoreView, changes_in, copies_in, len_in, HasTile, store_of}
-use Rattle.sk_coherence_laws.specs.Directory.{DirectoryView, copy_at, store_at, cells_of_copy, block_home, IsSound, AreCoherent}
+use Rattle.sk_coherence_laws.specs.Directory.{DirectoryView, copy_at, store_at, cells_of_copy, block_home, IsSound, AreCoherent, AreMailed}
 use Rattle.sk_coherence_laws.specs.Traced.{IsLike, IsLineOf, TracesStep}
+use Rattle.sk_messages.specs.Messages.{Spoils}
+use Rattle.sk_coherence_laws.specs.Serves.{HasOwner}
 use Rattle.sk_coherence_laws.specs.Retires.{Stales}
+use Rattle.sk_coherence_laws.proofs.MailLemmas.{mailed-spoilt-so, like-mail-spoilt}
 use Rattle.sk_coherence_laws.proofs.OpenLemmas.{some_of}
 use Rattle.sk_coherence_laws.proofs.StateLemmas.{same_store, stale_not_owner}
 use Rattle.sk_coherence_laws.proofs.SoundWrite.{room_other}
@@ -76,6 +79,15 @@ module _ (d n : DirectoryView) (s lo hi : ℕ) (states : StalesAll (copy_at d) (
         ∙ ap (λ o. cell_in o i) (sym (cells_same j));
   }
 
+  pub expected_staled : (q : ℕ) → expected_in (copy_at n q) ≡ expected_in (copy_at d q)
+  expected_staled q = by_store (expected_in (copy_at n q) ≡ expected_in (copy_at d q)) q (λ e. (states.staled q e).expected) (λ ne. ap expected_in (states.others q ne))
+
+  has_owner : (q i : ℕ) → state_in (copy_at n q) i ≡ Owner → HasOwner n d q i
+  has_owner q i own = record { at = q; store = sym (ap home_store (homes q)); owns = owner_before q i own; cell = sym (ap (λ o. cell_in o i) (cells_same q)) }
+
+  pub mailed_staled : AreMailed d → Spoils d.messages n.messages s lo hi → n.aside ≡ d.aside → AreMailed n
+  mailed_staled mailed spoilt aside = mailed-spoilt-so d n s lo hi mailed spoilt aside (ap (λ x. x.next) memories) homes expected_staled (λ q i own. inr (has_owner q i own))
+
   pub mark_staled : (m : Machine) → IsLike m d → (q i : ℕ) → IsSome (copy_at n q) → (stales s lo hi m).marks q i ≡ mark_of (state_in (copy_at n q) i)
   mark_staled m l q i some = by_place ((stales s lo hi m).marks q i ≡ mark_of (state_in (copy_at n q) i)) q i
       (λ e above below.
@@ -89,14 +101,15 @@ module _ (d n : DirectoryView) (s lo hi : ℕ) (states : StalesAll (copy_at d) (
       ∙ l.marks q i (some_home (copy_at n q) (copy_at d q) (homes q) some) ∙ ap mark_of (sym same))
 
 -- the room that a copy had for one change more is used up
-room_used : (d n : DirectoryView) (o p : Option Held) (s : ℕ) → HasRoomIn (changes_in (store_at d s) + 1) o → store_in o ≡ Some s → home_in p ≡ home_in o → room_in o ≤ room_in p + 1
-    → ((t : ℕ) → store_at n t ≡ store_at d t) → IfSome p (λ held. changes_in (store_at n held.store) ≤ held.states.reserved)
-room_used d n None None s room is home used same = tt
-room_used d n None (Some p) s room is home used same = cc
-room_used d n (Some o) None s room is home used same = tt
-room_used d n (Some o) (Some p) s room is home used same =
+room_used : (d n : DirectoryView) (o p : Option Held) (s : ℕ) → HasRoomIn (changes_in (store_at d s) + 1) o → store_in o ≡ Some s → home_in p ≡ home_in o
+    → expected_in p ≡ expected_in o → room_in o ≤ room_in p + 1
+    → ((t : ℕ) → store_at n t ≡ store_at d t) → IfSome p (λ held. changes_in (store_at n held.store) + held.expected ≤ held.states.reserved)
+room_used d n None None s room is home expected used same = tt
+room_used d n None (Some p) s room is home expected used same = cc
+room_used d n (Some o) None s room is home expected used same = tt
+room_used d n (Some o) (Some p) s room is home expected used same =
     let e : p.store ≡ s = grind (arith, ap home_store home ∙ is) in
-    omega (arith, room, used, ap changes_in (same p.store), ap (λ (x : ℕ). changes_in (store_at d x)) e)
+    omega (arith, room, used, expected, ap changes_in (same p.store), ap (λ (x : ℕ). changes_in (store_at d x)) e)
 
 module _ (d n : DirectoryView) (s lo hi : ℕ) (sound : IsSound d) (r : Stales d n s lo hi)
     (ready : (q : ℕ) → store_in (copy_at d q) ≡ Some s → HasRoomIn (changes_in (store_at d s) + 1) (copy_at d q)) where
@@ -107,10 +120,11 @@ module _ (d n : DirectoryView) (s lo hi : ℕ) (sound : IsSound d) (r : Stales d
   reshapes-staled = record {
     homes = homes d n s lo hi r.states r.spaces.memories;
     fit = fit_staled d n s lo hi r.states r.spaces.memories sound.fit;
-    room = λ q. by_store d n s lo hi r.states r.spaces.memories (IfSome (copy_at n q) (λ held. changes_in (store_at n held.store) ≤ held.states.reserved)) q
-        (λ e. room_used d n (copy_at d q) (copy_at n q) s (ready q e) e (homes d n s lo hi r.states r.spaces.memories q) (r.states.staled q e).room stores)
+    room = λ q. by_store d n s lo hi r.states r.spaces.memories (IfSome (copy_at n q) (λ held. changes_in (store_at n held.store) + held.expected ≤ held.states.reserved)) q
+        (λ e. room_used d n (copy_at d q) (copy_at n q) s (ready q e) e (homes d n s lo hi r.states r.spaces.memories q)
+        (r.states.staled q e).expected (r.states.staled q e).room stores)
         (λ ne. room_other d n (copy_at n q) s
-        (subst (λ (o : Option Held). IfSome o (λ held. changes_in (store_at d held.store) ≤ held.states.reserved)) (sym (r.states.others q ne)) (sound.room q))
+        (subst (λ (o : Option Held). IfSome o (λ held. changes_in (store_at d held.store) + held.expected ≤ held.states.reserved)) (sym (r.states.others q ne)) (sound.room q))
         (λ e. ne (sym (ap home_store (homes d n s lo hi r.states r.spaces.memories q)) ∙ e)) (λ t ne. stores t));
     listed = λ t. ap copies_in (stores t);
     tiles = λ t. subst (λ (o : Option StoreView). IfSome o HasTile) (sym (stores t)) (sound.tiles t);
@@ -126,13 +140,15 @@ module _ (d n : DirectoryView) (s lo hi : ℕ) (sound : IsSound d) (r : Stales d
     used = λ space. ap (λ x. used_of x space) r.spaces.memories;
   }
 
-  pub sound-staled : n.owed ≤ n.ready → n.ready ≤ n.spaces.journal.spare → IsSound n
-  sound-staled owed spare = sound-reshaped d n sound reshapes-staled (coherent_staled d n s lo hi r.states r.spaces.memories sound.coherent) owed spare
+  pub sound-staled : n.owed ≤ n.ready → n.ready + n.aside ≤ n.spaces.journal.spare → IsSound n
+  sound-staled owed spare = sound-reshaped d n sound reshapes-staled (coherent_staled d n s lo hi r.states r.spaces.memories sound.coherent)
+      (mailed_staled d n s lo hi r.states r.spaces.memories sound.mailed r.messages r.aside) owed spare
 
   pub traced-staled : IsSome (store_at d s) → lo ≤ hi → hi ≤ len_in (store_at d s) → TracesStep d n (line.Stale s lo hi)
   traced-staled there ordered below m l = (
     (some_of m.memory _ l.memory, inside-line (store_at d s) (m.stores s) lo hi there ordered below (l.stores s)),
     like-reshaped d n m (stales s lo hi m) l reshapes-staled refl refl refl refl (mark_staled d n s lo hi r.states r.spaces.memories m l)
         (λ q i readable. l.cells q i (readable_before d n s lo hi r.states r.spaces.memories q i readable)
-        ∙ ap (λ o. cell_in o i) (sym (cells_same d n s lo hi r.states r.spaces.memories q))),
+        ∙ ap (λ o. cell_in o i) (sym (cells_same d n s lo hi r.states r.spaces.memories q)))
+        (like-mail-spoilt m.messages d n s lo hi l.messages r.messages),
   )

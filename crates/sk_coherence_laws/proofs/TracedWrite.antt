@@ -12,8 +12,10 @@ use Rattle.sk_copy_states.specs.declared.held.Held.{Held}
 use Rattle.sk_copy_states.specs.Held.{mark_of}
 use Rattle.sk_copy_states.specs.Copies.{OwnsAlone, ReachesIn, home_in, home_store, store_in, state_in, cell_in}
 use Rattle.sk_copy_states.specs.Stores.{StoreView, after_write, UsesWrite}
+use Rattle.sk_messages.specs.Messages.{Spoils}
 use Rattle.sk_coherence_laws.specs.Directory.{DirectoryView, copy_at, store_at, cells_of_copy, IsSound}
 use Rattle.sk_coherence_laws.specs.Traced.{IsLike, IsLineOf, live_home}
+use Rattle.sk_coherence_laws.proofs.MailLemmas.{like-mail-spoilt}
 use Rattle.sk_coherence_laws.proofs.StateLemmas.{same_store}
 use Rattle.sk_coherence_laws.proofs.WriteLemmas as write
 use Rattle.sk_coherence_laws.proofs.SoundWrite.{values, homes_kept}
@@ -154,8 +156,9 @@ module _ (d n : DirectoryView) (c lo : ℕ) (xs : List ℤ) (s : ℕ) (step : St
       (λ (ne : t ≢ s). subst (λ (o : Option StoreView). IfSome o (λ store. IsSomeAnd (m.stores t) (IsLineOf store))) (sym (u.others t ne)) (l.stores t))
       (cases_eq t s)
 
-  like_in : n.next ≡ d.next → IsLike (writes_in s c lo (lo + length xs) (λ k. slice_index_or xs (k - lo) (pos 0)) m) n
-  like_in next = record {
+  like_in : n.next ≡ d.next → Spoils d.messages n.messages s lo (lo + length xs)
+      → IsLike (writes_in s c lo (lo + length xs) (λ k. slice_index_or xs (k - lo) (pos 0)) m) n
+  like_in next spoilt = record {
     memory = subst (λ (r : ℕ). IsSomeAnd m.memory (λ line. (line.ranks ≡ r) × (line.capacity ≡ n.spaces.memories.capacity))) (sym ch.memories.ranks)
         (subst (λ (k : ℕ). IsSomeAnd m.memory (λ line. (line.ranks ≡ d.spaces.memories.ranks) × (line.capacity ≡ k))) (sym ch.memories.capacity) l.memory);
     stores = store_line;
@@ -167,12 +170,14 @@ module _ (d n : DirectoryView) (c lo : ℕ) (xs : List ℤ) (s : ℕ) (step : St
     cells = λ q i readable. by_place ((writes_in s c lo (lo + length xs) (λ k. slice_index_or xs (k - lo) (pos 0)) m).cells q i ≡ cell_in (cells_of_copy n q) i) i
         (λ above below. cell_inside q i above below readable) (λ out. cell_outside q i out readable);
     used = λ space some. l.used space some ∙ sym (omega (arith, ch.memories.used space, taken-written (cells_of_copy d c) space lo xs));
+    messages = like-mail-spoilt m.messages d n s lo (lo + length xs) l.messages spoilt;
   }
 
   -- the machine's write leaves what is seen of the directory after the write
-  pub like-write : n.next ≡ d.next → IsLike (writes c lo (lo + length xs) (λ k. slice_index_or xs (k - lo) (pos 0)) m) n
-  like-write next =
+  pub like-write : n.next ≡ d.next → Spoils d.messages n.messages s lo (lo + length xs)
+      → IsLike (writes c lo (lo + length xs) (λ k. slice_index_or xs (k - lo) (pos 0)) m) n
+  like-write next spoilt =
       let t = live_of (m.copies c) (copy_at d c) (l.copies c) there in
       let of : t.0.store ≡ s = grind (arith, ap home_store t.2, of_store) in
       subst (λ (k : CopyState). IsLike (writes_at k c lo (lo + length xs) (λ k. slice_index_or xs (k - lo) (pos 0)) m) n) (sym t.1)
-      (subst (λ (x : ℕ). IsLike (writes_in x c lo (lo + length xs) (λ k. slice_index_or xs (k - lo) (pos 0)) m) n) (sym of) (like_in next))
+      (subst (λ (x : ℕ). IsLike (writes_in x c lo (lo + length xs) (λ k. slice_index_or xs (k - lo) (pos 0)) m) n) (sym of) (like_in next spoilt))

@@ -1,11 +1,11 @@
 -- A new copy.
-use Rattle.std.specs.Prelude.{◌≡◌, ◌≢◌, ℕ, ◌≤◌, Some, IsSome}
+use Rattle.std.specs.Prelude.{◌≡◌, ◌≢◌, ℕ, ◌≤◌, Some, None, IfSome, IsSome}
 use Rattle.sk_ranges.specs.declared.state.State.TheVariants.{Stale}
 use Rattle.sk_spaces.specs.Memories.{AddsBlock, fresh_block}
 use Rattle.sk_spaces.specs.Spaces.{used_at}
 use Rattle.sk_copy_states.specs.declared.held.Held.{Held}
 use Rattle.sk_copy_states.specs.Held.{IsFit, state_of, home_of}
-use Rattle.sk_copy_states.specs.Copies.{ChangesCopy, KeepsStates}
+use Rattle.sk_copy_states.specs.Copies.{ChangesCopy, KeepsStates, home_in}
 use Rattle.sk_copy_states.specs.Stores.{StoreView, PutsStore, with_copy}
 use Rattle.sk_coherence_laws.specs.Directory.{DirectoryView, copy_at, store_at}
 
@@ -16,17 +16,21 @@ pub record AddsCopy (old new : DirectoryView) (id s space lo hi : ℕ) (st : Sto
   pub store : store_at old s ≡ Some st
   pub stores : PutsStore old.stores new.stores s (with_copy id st)
   pub next : new.next ≡ old.next
+  pub messages : new.messages ≡ old.messages
+  pub aside : new.aside ≡ old.aside
   pub home_store : held.store ≡ s
   pub home : home_of held ≡ record { store = s; space = space; lo = lo; hi = hi }
   pub pins : held.pins ≡ 0
+  pub expected : held.expected ≡ 0
   pub fit : IsFit held
   pub room : st.room ≤ held.states.reserved
   pub stale : (i : ℕ) → state_of held i ≡ Stale
 
--- a copy is found or made in one space: every other copy, and what is taken of every other space, is as before
+-- a copy is found or made in one space: every other copy, and what is taken of every other space, is as before; what is made lies there
 pub record Places (old new : DirectoryView) (space : ℕ) : Type 0 where
   pub kept : (q : ℕ) → IsSome (copy_at old q) → KeepsStates (copy_at old q) (copy_at new q)
   pub used : (at : ℕ) → at ≢ space → used_at new.spaces at ≡ used_at old.spaces at
+  pub made : (q : ℕ) → copy_at old q ≡ None → IfSome (home_in (copy_at new q)) (λ home. home.space ≡ space)
 
 -- there is a new copy of store s at these indices: all stale, and not pinned; nothing else changed but that it is listed
 abbrev pub AddsSome : DirectoryView → DirectoryView → ℕ → ℕ → ℕ → ℕ → ℕ → Type 0

@@ -18,6 +18,8 @@ pub record FreesCopy (old new : DirectoryView) (id s : ℕ) (st now : StoreView)
   pub next : new.next ≡ old.next
   pub owed : new.owed ≡ old.owed
   pub named : new.named ≡ old.named
+  pub messages : new.messages ≡ old.messages
+  pub aside : new.aside ≡ old.aside
   pub noted : NotesStep old.spaces new.spaces (Free id)
 
 -- the copy is gone, and is not listed any more; nothing else changed

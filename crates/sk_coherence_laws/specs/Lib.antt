@@ -12,3 +12,4 @@ pub mod Acquires
 pub mod Owes
 pub mod Rebinds
 pub mod Retires
+pub mod Sends

@@ -31,19 +31,21 @@ pub record TakesIn (source old new : ℕ → ℤ) (lo hi : ℕ) : Type 0 where
   pub inside : (i : ℕ) → lo ≤ i → i < hi → new i ≡ source i
   pub after : (i : ℕ) → hi ≤ i → new i ≡ old i
 
--- the stores and numbers are as before, and so are the ranks and what is taken of their spaces; one step was noted
+-- the stores, messages and numbers are as before, and so are the ranks and what is taken of their spaces; one step was noted
 pub record NotesOne (old new : DirectoryView) (step : Step) : Type 0 where
   pub stores : new.stores ≡ old.stores
   pub next : new.next ≡ old.next
   pub owed : new.owed ≡ old.owed
   pub named : new.named ≡ old.named
+  pub messages : new.messages ≡ old.messages
+  pub aside : new.aside ≡ old.aside
   pub next_copy : new.spaces.memories.next ≡ old.spaces.memories.next
   pub ranks : new.spaces.memories.ranks ≡ old.spaces.memories.ranks
   pub capacity : new.spaces.memories.capacity ≡ old.spaces.memories.capacity
   pub used : (space : ℕ) → used_at new.spaces space ≡ used_at old.spaces space
   pub noted : NotesStep old.spaces new.spaces step
 
--- every copy, store, cell and step is as before; the journal may have more room
+-- every copy, store, cell, message and step is as before; the journal may have more room
 pub record Idles (old new : DirectoryView) : Type 0 where
   pub copies : (q : ℕ) → KeepsStates (copy_at old q) (copy_at new q)
   pub pins : (q : ℕ) → pins_in (copy_at new q) ≡ pins_in (copy_at old q)
@@ -52,6 +54,8 @@ pub record Idles (old new : DirectoryView) : Type 0 where
   pub owed : new.owed ≡ old.owed
   pub named : new.named ≡ old.named
   pub ready : old.ready ≤ new.ready
+  pub messages : new.messages ≡ old.messages
+  pub aside : new.aside ≡ old.aside
   pub spaces : Stays old.spaces new.spaces old.spaces.named
 
 -- stale indices of a copy are valid now, with the cells of another one; all else is as before

@@ -17,6 +17,8 @@ pub record OwesWrite (old new : DirectoryView) (s copy : ℕ) : Type 0 where
   pub spaces : new.spaces ≡ old.spaces
   pub next : new.next ≡ old.next
   pub named : new.named ≡ old.named
+  pub messages : new.messages ≡ old.messages
+  pub aside : new.aside ≡ old.aside
 
 -- a copy of store s was made or found, as before says; and then it was pinned once more, with room for a write
 pub record AcquiresWrite (old new : DirectoryView) (s copy : ℕ) : Type 0 where

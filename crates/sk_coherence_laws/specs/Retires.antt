@@ -8,19 +8,23 @@ use Rattle.sk_spaces.specs.Rules.{IsThere, after_all}
 use Rattle.sk_spaces.specs.Spaces.{used_at, OnlyNotes}
 use Rattle.sk_copy_states.specs.Held.{mark_of}
 use Rattle.sk_copy_states.specs.Copies.{StalesAll, SetsAt, KeepsStates, LiesAmong, home_in, store_in, state_in, cell_in, pins_in}
-use Rattle.sk_copy_states.specs.Stores.{changes_in}
+use Rattle.sk_copy_states.specs.Stores.{changes_in, len_in}
+use Rattle.sk_messages.specs.Messages.{Spoils}
 use Rattle.sk_coherence_laws.specs.Directory.{DirectoryView, copy_at, store_at, cells_of_copy}
-use Rattle.sk_coherence_laws.specs.Traced.{IsLineOf, live_home}
+use Rattle.sk_coherence_laws.specs.Traced.{IsLineOf, HasMessages, live_home}
 use Rattle.sk_coherence_laws.specs.Serves.{unlisted}
 use Rattle.sk_coherence_laws.specs.Steps.{AreDone, counted}
 
--- every copy of store s is stale at these indices; every other copy, every cell and every store is as before; one step was noted
+-- every copy of store s is stale at these indices, and messages over them are spoilt; every other copy, every cell and every
+-- store is as before; one step was noted
 pub record Stales (old new : DirectoryView) (s lo hi : ℕ) : Type 0 where
   pub states : StalesAll (copy_at old) (copy_at new) s lo hi
   pub stores : new.stores ≡ old.stores
   pub next : new.next ≡ old.next
   pub owed : new.owed ≡ old.owed
   pub named : new.named ≡ old.named
+  pub messages : Spoils old.messages new.messages s lo hi
+  pub aside : new.aside ≡ old.aside
   pub spaces : OnlyNotes old.spaces new.spaces (Stale s lo hi)
 
 -- copies of store s with all of their block among these indices are gone, and nothing else changed
@@ -33,12 +37,14 @@ pub record Thins (old new : DirectoryView) (s lo hi : ℕ) : Type 0 where
   pub next : new.next ≡ old.next
   pub owed : new.owed ≡ old.owed
   pub named : new.named ≡ old.named
+  pub messages : new.messages ≡ old.messages
+  pub aside : new.aside ≡ old.aside
   pub next_copy : new.spaces.memories.next ≡ old.spaces.memories.next
   pub ranks : new.spaces.memories.ranks ≡ old.spaces.memories.ranks
   pub capacity : new.spaces.memories.capacity ≡ old.spaces.memories.capacity
 
--- Every copy of store s is stale at these indices, and the copies with all of their block among them are gone. Every other copy,
--- and the cells of each copy that is left, are as before.
+-- Every copy of store s is stale at these indices, the copies with all of their block among them are gone, and messages over them
+-- are spoilt. Every other copy, and the cells of each copy that is left, are as before.
 pub record Retires (old new : DirectoryView) (s lo hi : ℕ) : Type 0 where
   pub gone : (q : ℕ) → LiesAmong s lo hi (home_in (copy_at old q)) → copy_at new q ≡ None
   pub staled : (q : ℕ) → (LiesAmong s lo hi (home_in (copy_at old q)) → ⊥) → store_in (copy_at old q) ≡ Some s
@@ -51,11 +57,14 @@ pub record Retires (old new : DirectoryView) (s lo hi : ℕ) : Type 0 where
   pub next : new.next ≡ old.next
   pub owed : new.owed ≡ old.owed
   pub named : new.named ≡ old.named
+  pub messages : Spoils old.messages new.messages s lo hi
+  pub aside : new.aside ≡ old.aside
   pub next_copy : new.spaces.memories.next ≡ old.spaces.memories.next
   pub ranks : new.spaces.memories.ranks ≡ old.spaces.memories.ranks
   pub capacity : new.spaces.memories.capacity ≡ old.spaces.memories.capacity
 
--- The store is gone with its copies, and what was owed to writes of it is not owed any more. Every other store and copy is as before.
+-- The store is gone with its copies and the messages over it, and what was owed to writes of it is not owed any more. Every other
+-- store and copy is as before.
 pub record Closes (old new : DirectoryView) (s : ℕ) : Type 0 where
   pub store : store_at new s ≡ None
   pub stores : (t : ℕ) → t ≢ s → store_at new t ≡ store_at old t
@@ -65,6 +74,8 @@ pub record Closes (old new : DirectoryView) (s : ℕ) : Type 0 where
   pub owed : new.owed ≡ old.owed - changes_in (store_at old s)
   pub next : new.next ≡ old.next
   pub named : new.named ≡ old.named
+  pub messages : Spoils old.messages new.messages s 0 (len_in (store_at old s))
+  pub aside : new.aside ≡ old.aside
   pub next_copy : new.spaces.memories.next ≡ old.spaces.memories.next
   pub ranks : new.spaces.memories.ranks ≡ old.spaces.memories.ranks
   pub capacity : new.spaces.memories.capacity ≡ old.spaces.memories.capacity
@@ -91,7 +102,7 @@ IsRetiring s lo hi m step = IsStaling s lo hi m step ⊎ IsFreeing s lo hi m ste
 abbrev pub IsClosing : ℕ → ℕ → Machine → Step → Type 0
 IsClosing s len m step = (IsStaling s 0 len m step × IsOwnedIn s m) ⊎ IsFreeing s 0 len m step
 
--- the machine has the directory's stores and copies, whatever their states
+-- the machine has the directory's stores, copies and messages, whatever the states
 pub record IsPlaced (m : Machine) (d : DirectoryView) : Type 0 where
   pub memory : IsSomeAnd m.memory (λ line. (line.ranks ≡ d.spaces.memories.ranks) × (line.capacity ≡ d.spaces.memories.capacity))
   pub stores : (s : ℕ) → IfSome (store_at d s) (λ store. IsSomeAnd (m.stores s) (IsLineOf store))
@@ -99,6 +110,7 @@ pub record IsPlaced (m : Machine) (d : DirectoryView) : Type 0 where
   pub copies : (q : ℕ) → live_home (m.copies q) ≡ home_in (copy_at d q)
   pub new_copies : (q : ℕ) → d.spaces.memories.next ≤ q → m.copies q ≡ unused
   pub used : (space : ℕ) → 0 < space → m.used space ≡ used_at d.spaces space
+  pub messages : HasMessages m.messages d
 
 -- the machine is like the directory, but that the copies of store s with all of their block among these indices own nothing in it
 pub record IsLikeBut (s lo hi : ℕ) (m : Machine) (d : DirectoryView) : Type 0 where

@@ -1,7 +1,7 @@
 -- A directory and the machine of a trace.
 use Rattle.std.specs.Prelude.{◌≡◌, ◌≢◌, ℕ, ℤ, ◌+◌, ◌-◌, ◌≤◌, ◌<◌, List, slice_index_or, Option, Some, None, IfSome, IsSome, IsSomeAnd, pos}
 use Rattle.sk_ranges.specs.declared.state.State.TheVariants.{Stale}
-use Rattle.sk_spaces.specs.Machine.{Machine, Home, CopyState, unused, live, freed, StoreLine, writes}
+use Rattle.sk_spaces.specs.Machine.{Machine, Home, CopyState, unused, live, freed, StoreLine, Message, flying, writes}
 use Rattle.sk_spaces.specs.Spaces.{used_at, OnlyNotes}
 use Rattle.sk_copy_states.specs.Held.{mark_of}
 use Rattle.sk_copy_states.specs.Copies.{state_in, cell_in, home_in}
@@ -9,7 +9,8 @@ use Rattle.sk_spaces.specs.declared.step.Step.{Step}
 use Rattle.sk_spaces.specs.declared.step.Step.TheVariants.{Store}
 use Rattle.sk_spaces.specs.Rules.{IsLegal, after}
 use Rattle.sk_copy_states.specs.Stores.{StoreView, PutsStore}
-use Rattle.sk_coherence_laws.specs.Directory.{DirectoryView, copy_at, store_at, cells_of_copy}
+use Rattle.sk_messages.specs.Messages.{Mail, next_of}
+use Rattle.sk_coherence_laws.specs.Directory.{DirectoryView, copy_at, store_at, cells_of_copy, mail_at, mail_cell}
 
 -- where a live copy lies
 abbrev pub live_home : CopyState → Option Home
@@ -21,8 +22,23 @@ live_home freed = None
 abbrev pub IsLineOf : StoreView → StoreLine → Type 0
 IsLineOf store line = (line.ty ≡ store.ty) × (line.shape ≡ store.shape)
 
--- The machine has the directory's capacity, ranks, stores, copies, states and cells that may be read. It may have closed
--- stores besides. The numbers of its stores and copies are below the next ones of the directory.
+-- the message is in flight with these cells
+pub record IsMessageOf (mail : Mail) (message : Message) : Type 0 where
+  pub store : message.store ≡ mail.store
+  pub target : message.target ≡ mail.target
+  pub lo : message.lo ≡ mail.lo
+  pub hi : message.hi ≡ mail.hi
+  pub fate : message.fate ≡ flying
+  pub cells : (i : ℕ) → mail.lo ≤ i → i < mail.hi → message.cells i ≡ mail_cell mail i
+
+-- the machine has the messages of the directory, and none with a number that is not given yet
+pub record HasMessages (messages : ℕ → Option Message) (d : DirectoryView) : Type 0 where
+  pub mails : (number : ℕ) → IfSome (mail_at d number) (λ mail. IsSomeAnd (messages number) (IsMessageOf mail))
+  pub fresh : (number : ℕ) → next_of d.messages ≤ number → messages number ≡ None
+
+-- The machine has the directory's capacity, ranks, stores, copies, states, cells that may be read, and messages. It may have
+-- closed stores besides, and messages that came, were spoilt or have lost their copy. The numbers of its stores, copies and
+-- messages are below the next ones of the directory.
 pub record IsLike (m : Machine) (d : DirectoryView) : Type 0 where
   pub memory : IsSomeAnd m.memory (λ line. (line.ranks ≡ d.spaces.memories.ranks) × (line.capacity ≡ d.spaces.memories.capacity))
   pub stores : (s : ℕ) → IfSome (store_at d s) (λ store. IsSomeAnd (m.stores s) (IsLineOf store))
@@ -32,6 +48,7 @@ pub record IsLike (m : Machine) (d : DirectoryView) : Type 0 where
   pub marks : (q i : ℕ) → IsSome (copy_at d q) → m.marks q i ≡ mark_of (state_in (copy_at d q) i)
   pub cells : (q i : ℕ) → state_in (copy_at d q) i ≢ Stale → m.cells q i ≡ cell_in (cells_of_copy d q) i
   pub used : (space : ℕ) → 0 < space → m.used space ≡ used_at d.spaces space
+  pub messages : HasMessages m.messages d
 
 -- the machine's write of these cells leaves what is seen of the directory after it
 abbrev pub TracesWrite : DirectoryView → DirectoryView → ℕ → ℕ → ℕ → List ℤ → Type 0
@@ -50,4 +67,7 @@ pub record Opens (old new : DirectoryView) (id : ℕ) (store : StoreView) : Type
   pub copies : new.copies ≡ old.copies
   pub owed : new.owed ≡ old.owed
   pub ready : old.ready ≤ new.ready + 1
+  pub named : new.named ≡ old.named
+  pub messages : new.messages ≡ old.messages
+  pub aside : new.aside ≡ old.aside
   pub spaces : OnlyNotes old.spaces new.spaces (Store id store.ty store.shape)

@@ -61,27 +61,34 @@ keeps-serves a b x = record {
     cells : (s n : ℕ) → HasCells a s n → HasCells b s n
     cells s n is = cells_on (store_at a s) (store_at b s) n (shape_unlisted (store_at a s) (store_at b s) (x.stores s)) (there_unlisted (store_at a s) (store_at b s) (x.stores s)) is
 
--- copies that are there keep their states
-keeps-states : (a b : DirectoryView) → ((q : ℕ) → IsSome (copy_at a q) → KeepsStates (copy_at a q) (copy_at b q))
+-- copies that are there lie where they did, and own what they owned
+pub keeps-owned : (a b : DirectoryView) → ((q : ℕ) → IsSome (copy_at a q) → home_in (copy_at b q) ≡ home_in (copy_at a q))
+    → ((q i : ℕ) → IsSome (copy_at a q) → state_in (copy_at a q) i ≡ Owner → state_in (copy_at b q) i ≡ Owner)
     → ((s n : ℕ) → HasCells a s n → HasCells b s n) → b.spaces.memories.ranks ≡ a.spaces.memories.ranks → Keeps a b
-keeps-states a b kept cells ranks = record {
+keeps-owned a b homes owns cells ranks = record {
   cells = cells;
   full = λ s n is. record {
     cells = cells s n is.cells;
     owned = λ i below. let o = is.owned i below in
-        let k = kept o.0 (readable_there (copy_at a o.0) i (λ e. owner_not_stale (sym o.2 ∙ e))) in
-        (o.0, ap home_store k.home ∙ o.1, k.states i ∙ o.2);
+        let some = readable_there (copy_at a o.0) i (λ e. owner_not_stale (sym o.2 ∙ e)) in
+        (o.0, ap home_store (homes o.0 some) ∙ o.1, owns o.0 i some o.2);
   };
   ranks = ranks;
 }
 
+-- copies that are there keep their states
+keeps-states : (a b : DirectoryView) → ((q : ℕ) → IsSome (copy_at a q) → KeepsStates (copy_at a q) (copy_at b q))
+    → ((s n : ℕ) → HasCells a s n → HasCells b s n) → b.spaces.memories.ranks ≡ a.spaces.memories.ranks → Keeps a b
+keeps-states a b kept = keeps-owned a b (λ q some. (kept q some).home) (λ q i some own. (kept q some).states i ∙ own)
+
 same_states : (o : Option Held) → KeepsStates o o
-same_states o = record { home = refl; fit = λ fit. fit; room = omega arith; states = λ i. refl }
+same_states o = record { home = refl; expected = refl; fit = λ fit. fit; room = omega arith; states = λ i. refl }
 
 pinned : (o p : Option Held) → IsSome o → IfSome o (λ held. p ≡ Some (record held { pins = held.pins + 1 })) → KeepsStates o p
 pinned None p there is = cc
 pinned (Some held) p there is = subst (λ (x : Option Held). KeepsStates (Some held) x) (sym is) (record {
   home = refl;
+  expected = refl;
   fit = λ fit. record { ordered = fit.ordered; states = fit.states };
   room = omega arith;
   states = λ i. refl;
@@ -200,6 +207,7 @@ unpinned : (o p : Option Held) → IsSome o → IfSome o (λ held. p ≡ Some (r
 unpinned None p there is = cc
 unpinned (Some held) p there is = subst (λ (x : Option Held). KeepsStates (Some held) x) (sym is) (record {
   home = refl;
+  expected = refl;
   fit = λ fit. record { ordered = fit.ordered; states = fit.states };
   room = omega arith;
   states = λ i. refl;
@@ -223,9 +231,9 @@ with_store : (o : Option Held) (s : ℕ) (P : ℕ → Type 0) → store_in o ≡
 with_store None s P of is = cc
 with_store (Some held) s P of is = subst P (some_eq held.store s of) is
 
--- a vector is acquired, some of its cells are written, and it is released
-module _ (a b k r n : DirectoryView) (copy s len space lo hi : ℕ) (cells : List ℤ) (cells_a : HasCells a s len)
-    (x : AcquiresWrite a b s copy) (home : home_in (copy_at b copy) ≡ Some (record { store = s; space = space; lo = 0; hi = len }))
+-- a block of a vector is acquired, some of its cells are written, and it is released
+module _ (a b k r n : DirectoryView) (copy s len space first last lo hi : ℕ) (cells : List ℤ) (cells_a : HasCells a s len)
+    (x : AcquiresWrite a b s copy) (home : home_in (copy_at b copy) ≡ Some (record { store = s; space = space; lo = first; hi = last }))
     (named : k ≡ record b { named = k.named }) (w : WritesCopy k r copy lo hi cells) (room : SameRoom k r)
     (u : IfSome (copy_at k copy) (λ held. UsesWrite k.stores r.stores held.store))
     (here : IfSome (copy_at r copy) (λ held. copy_at n copy ≡ Some (record held { pins = held.pins - 1 })))
@@ -235,7 +243,7 @@ module _ (a b k r n : DirectoryView) (copy s len space lo hi : ℕ) (cells : Lis
 
   of_k : store_in (copy_at k copy) ≡ Some s
   of_k = ap (λ (d : DirectoryView). store_in (copy_at d copy)) named
-      ∙ (store_of_home (copy_at b copy) (record { store = s; space = space; lo = 0; hi = len }) home).1
+      ∙ (store_of_home (copy_at b copy) (record { store = s; space = space; lo = first; hi = last }) home).1
 
   used : UsesWrite k.stores r.stores s
   used = with_store (copy_at k copy) s (λ (t : ℕ). UsesWrite k.stores r.stores t) of_k u

@@ -1,1 +1,2 @@
 pub mod FullLemmas
+pub mod FlyingLemmas

@@ -4,6 +4,7 @@
 //! - `evictions`: copies that give way on a rank.
 //! - `halos`: what is left to messages.
 //! - `lives`: what is retired and closed.
+//! - `messages`: what is sent and delivered.
 #![tactic(auto)]
 
 #[cfg(test)]
@@ -12,5 +13,7 @@ mod evictions;
 mod halos;
 #[cfg(test)]
 mod lives;
+#[cfg(test)]
+mod messages;
 #[cfg(test)]
 mod plays;

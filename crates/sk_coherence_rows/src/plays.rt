@@ -1,7 +1,8 @@
 //! Whole vectors that are opened, written and read.
-ghost use Rattle.std.specs.Prelude.{◌≡◌, ℕ, ◌<◌, ◌≤◌, length, IfOk, OnOk};
+ghost use Rattle.std.specs.Prelude.{◌≡◌, ◌≢◌, ℕ, ◌<◌, ◌≤◌, [], ◌∷◌, length, None, IfOk, OnOk};
 ghost use Rattle.sk_copy_states.specs.Copies.{pins_in};
-ghost use Rattle.sk_coherence_laws.specs.Directory.{copy_at};
+ghost use Rattle.sk_coherence_laws.specs.Directory.{copy_at, mail_at};
+ghost use Rattle.sk_coherence_rows.specs.Flying.{IsFlying};
 ghost use Rattle.sk_coherence_rows.specs.Full.{HasCells, IsFull, Keeps};
 
 use sk_base::{Cell, Range, Shape, Ty};
@@ -168,6 +169,89 @@ pub fn poke(
     dir.release_write(copy, one, &[cell]);
     dir.unpin(copy);
     Ok(())
+}
+
+/// A message, and the copy to which it goes.
+#[derive(Clone, Copy)]
+pub struct Sent {
+    pub message: u64,
+    pub to: CopyId,
+}
+
+/// The one message that is left to do.
+fn only(transfers: &[Transfer]) -> Result<Transfer, Memory>
+    ensures { IfOk result (λ transfer. transfers.now ≡ transfer ∷ []) }
+{
+    match transfers {
+        [transfer] => Ok(*transfer),
+        _ => Err(Memory),
+    }
+}
+
+/// Acquires a block of a vector on a rank, and sends the one message that is left to do for it.
+pub fn send(
+    alloc: Global,
+    dir: &mut Directory<Kept>,
+    vector: Vector,
+    space: u32,
+    block: Range,
+    chooser: &mut Listed,
+) -> Result<Sent, AcquireFault>
+    requires full { IsFull dir.old vector.store.id vector.len }
+    requires some { block.lo < block.hi }
+    requires inside { block.hi ≤ vector.len }
+    requires far { 0 < space }
+    requires ranks { space ≤ dir.old.spaces.memories.ranks }
+    ensures flying { IfOk result (λ sent. IsFlying dir.new sent.message sent.to.id) }
+    ensures new { IfOk result (λ sent. mail_at dir.old sent.message ≡ None) }
+    ensures pinned { IfOk result (λ sent. pins_in (copy_at dir.old sent.to.id) < pins_in (copy_at dir.new sent.to.id)) }
+    ensures others { OnOk result ((k q : ℕ) → IsFlying dir.old k q → IsFlying dir.new k q) }
+    ensures pins { OnOk result ((q : ℕ) → pins_in (copy_at dir.old q) ≤ pins_in (copy_at dir.new q)) }
+    ensures keeps { OnOk result (Keeps dir.old dir.new) }
+{
+    let (copy, transfers) = dir.acquire_later(alloc, vector.store, space, block, block, chooser)?;
+    let transfer = only(&transfers)?;
+    dir.is_sound();
+    dir.reserve_sends(alloc, &[copy], transfer.range.len())?;
+    let message = dir.send(&transfer);
+    Ok(Sent { message, to: copy })
+}
+
+/// A message comes to its copy.
+pub fn receive(dir: &mut Directory<Kept>, sent: Sent)
+    requires flying { IsFlying dir.old sent.message sent.to.id }
+    ensures others { (k q : ℕ) → k ≢ sent.message → IsFlying dir.old k q → IsFlying dir.new k q }
+    ensures pins { (q : ℕ) → pins_in (copy_at dir.new q) ≡ pins_in (copy_at dir.old q) }
+    ensures keeps { Keeps dir.old dir.new }
+{
+    dir.deliver(sent.message);
+}
+
+/// A vector of these cells that the host wrote.
+pub fn written(
+    alloc: Global,
+    dir: &mut Directory<Kept>,
+    cells: &[Cell],
+    len: u32,
+    chooser: &mut Listed,
+) -> Result<Vector, AcquireFault>
+    requires len { length cells.now ≡ len }
+    requires some { 0 < len }
+    ensures full { IfOk result (λ vector. IsFull dir.new vector.store.id len) }
+    ensures len { IfOk result (λ vector. vector.len ≡ len) }
+    ensures ranks { OnOk result (dir.new.spaces.memories.ranks ≡ dir.old.spaces.memories.ranks) }
+{
+    let store = open(alloc, dir, len)?;
+    write(alloc, dir, store, 0, cells, Line::Host, chooser)?;
+    Ok(Vector { store, len })
+}
+
+/// The cells of a copy.
+pub fn cells_of(alloc: Global, dir: &Directory<Kept>, copy: CopyId) -> Result<Vec<Cell>, Memory>
+    requires { 0 < pins_in (copy_at dir.now copy.id) }
+{
+    let cells = dir.cells(copy).to_vec(alloc)?;
+    Ok(cells)
 }
 
 /// Steps as text, each on a line.

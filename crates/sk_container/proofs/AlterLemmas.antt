@@ -6,12 +6,14 @@ use Rattle.sk_spaces.specs.Machine.{Home}
 use Rattle.sk_spaces.specs.Memories.{block_of}
 use Rattle.sk_spaces.specs.Spaces.{SpacesView}
 use Rattle.sk_copy_states.specs.declared.held.Held.{Held}
-use Rattle.sk_copy_states.specs.Copies.{home_in, home_store, store_in, state_in, cell_in, pins_in}
+use Rattle.sk_copy_states.specs.Copies.{home_in, home_store, store_in, state_in, cell_in, pins_in, expected_in}
 use Rattle.sk_copy_states.specs.Stores.{StoreView, UsesWrite, changes_in, before_write, after_write}
+use Rattle.sk_messages.specs.Messages.{Spoils}
 use Rattle.sk_coherence_laws.specs.Directory.{DirectoryView, copy_at, store_at, cells_of_copy, IsSound}
 use Rattle.sk_coherence_laws.specs.Owes.{OwesWrite}
 use Rattle.sk_coherence_laws.specs.Serves.{Serves, GrowsAt, WasEvicted, unlisted}
 use Rattle.sk_coherence_laws.proofs.AcquireLemmas.{home_there, store-stays}
+use Rattle.sk_coherence_laws.proofs.MailLemmas.{spoilt-between}
 use Rattle.sk_coherence_laws.proofs.TracedWrite.{some_home}
 use Rattle.sk_coherence.specs.Evicts.{IsOnHost}
 use Rattle.sk_container.specs.Cells.{HasCell, IsElse}
@@ -93,6 +95,9 @@ module _ (a b c : DirectoryView) (s space copy from to : ℕ) (there : IsSome (s
         (λ (ne : q ≢ copy). p.pins q ne ∙ o.others q ne)
         (cases_eq q copy)
 
+    expected_on : (q : ℕ) → expected_in (copy_at n q) ≡ expected_in (copy_at b q)
+    expected_on q = p.expected q ∙ (o.copies q).expected
+
     store_copy : store_in (copy_at b copy) ≡ Some s
     store_copy = ap home_store (sym (o.copies copy).home ∙ home)
 
@@ -135,6 +140,7 @@ module _ (a b c : DirectoryView) (s space copy from to : ℕ) (there : IsSome (s
         let same : store_in (copy_at b q) ≡ store_in (copy_at a q) = ap home_store g.home in record {
           home = home_on q ∙ g.home;
           pins = pins_on q ∙ g.pins;
+          expected = expected_on q ∙ g.expected;
           readable = λ i out r e. g.readable i r (sym (state_on q i (subst (λ (k : Option ℕ). IsElse s lo hi k i) (sym same) out)) ∙ e);
           cells = λ i out r. cell_on q i (subst (λ (k : Option ℕ). IsElse s lo hi k i) (sym same) out) ∙ g.cells i r;
         }
@@ -158,18 +164,23 @@ module _ (a b c : DirectoryView) (s space copy from to : ℕ) (there : IsSome (s
         = store_of_home (copy_at c copy) (λ (t : ℕ). n.owed ≡ c.owed - min (changes_in (store_at c t)) 2) (home_at s space from to) home p.owed in
         omega (arith, left, changes, o.owed)
 
+    spoilt_on : Spoils c.messages n.messages s lo hi
+    spoilt_on = store_of_home (copy_at c copy) (λ (t : ℕ). Spoils c.messages n.messages t lo hi) (home_at s space from to) home p.messages
+
     memories_next : c.spaces.memories.next ≡ b.spaces.memories.next
     memories_next = ap (λ (v : SpacesView). v.memories.next) o.spaces
 
     pub alters-put : Alters a n s lo hi
     alters-put = record {
       stays = λ q there. ⊎_elim (λ (g : GrowsAt a b q). inl (grows_on q g)) (λ (w : WasEvicted a b q). inr (evicted_on q w)) (x.stays q there);
-      fresh = λ q none some. let f = x.fresh q none (some_home (copy_at n q) (copy_at b q) (home_on q) some) in (f.0, pins_on q ∙ f.1);
+      fresh = λ q none some. let f = x.fresh q none (some_home (copy_at n q) (copy_at b q) (home_on q) some) in (f.0, pins_on q ∙ f.1, expected_on q ∙ f.2);
       owned = λ t i v out h. has_on t i v out (has-served a b t i v x h);
       owners = λ t i v out h. has-before a b t i v x (has_back t i v out h);
       stores = λ t. ap (option_map unlisted) (store_on t) ∙ x.stores t;
       next = p.next ∙ o.next ∙ x.next;
       owed = owed_on ∙ x.owed;
+      messages = spoilt-between a.messages c.messages n.messages n.messages s lo hi (o.messages ∙ x.messages) spoilt_on refl;
+      aside = p.aside ∙ o.aside ∙ x.aside;
       next_copy = omega (arith, x.next_copy, p.next_copy, memories_next);
       ranks = p.ranks ∙ ap (λ (v : SpacesView). v.memories.ranks) o.spaces ∙ x.ranks;
       capacity = p.capacity ∙ ap (λ (v : SpacesView). v.memories.capacity) o.spaces ∙ x.capacity;

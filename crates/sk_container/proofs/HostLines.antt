@@ -14,6 +14,8 @@ use Rattle.sk_coherence_laws.proofs.LegalMoves.{readable_mark}
 use Rattle.sk_coherence_laws.proofs.OpenLemmas.{some_of}
 use Rattle.sk_coherence_laws.proofs.TracedWrite.{live_of}
 use Rattle.sk_coherence_laws.proofs.TracesLemmas.{traces-map}
+use Rattle.sk_coherence.specs.Room.{IsYielding}
+use Rattle.sk_coherence.proofs.StepKinds.{yielding-due}
 use Rattle.sk_container.specs.Lines.{IsHosting}
 
 nothing : 0 < 0 → ⊥
@@ -43,6 +45,10 @@ due-hosting capacity len m line.Flush is = absurd is
 
 pub traces-hosting : (a b : DirectoryView) (capacity len : ℕ) → Traces (IsDue capacity 0 len) a b → Traces IsHosting a b
 traces-hosting a b capacity len x = traces-map (IsDue capacity 0 len) IsHosting a b (due-hosting capacity len) x
+
+pub traces-hosting-unfilled : (a b : DirectoryView) (capacity len : ℕ) → Traces (IsYielding capacity 0 len) a b → Traces IsHosting a b
+traces-hosting-unfilled a b capacity len x =
+    traces-map (IsYielding capacity 0 len) IsHosting a b (λ m step is. due-hosting capacity len m step (yielding-due capacity 0 len m step is)) x
 
 -- a copy on the host may be read where it is not stale
 module _ (d : DirectoryView) (q lo hi : ℕ) (home : Home) (is : home_in (copy_at d q) ≡ Some home) (host : home.space ≡ 0)

@@ -1,26 +1,29 @@
 -- A store that is opened for a container, filled, or closed again.
-use Rattle.std.proofs.Common.{◌≡◌, ◌≢◌, ℕ, ℤ, ◌-◌, ◌<◌, ◌≤◌, length, List, replicate, slice_index_or, pos, Option, Some, None, IfSome, IsSome, IsSomeAnd, option_map, Result, Ok, Err, OnOk, OnErr, arith, ⊎_elim, inl, inr, refl, sym, subst, ◌∙◌, ap}
+use Rattle.std.proofs.Common.{◌≡◌, ◌≢◌, ℕ, ℤ, ◌-◌, ◌<◌, ◌≤◌, ◌==◌, ◌&&◌, if◌then◌else◌, Bool, true, false, length, List, replicate, slice_index_or, pos, Option, Some, None, IfSome, IsSome, IsSomeAnd, option_map, Result, Ok, Err, OnOk, OnErr, arith, ⊎_elim, inl, inr, refl, sym, subst, ◌∙◌, ap}
 use Rattle.std.proofs.lemmas.Grind.{common_steps}
 use Rattle.sk_base.specs.declared.number.Ty.{Ty}
 use Rattle.sk_base.specs.Shape.{cells_of}
 use Rattle.sk_spaces.specs.declared.step.Step.TheVariants as line
+use Rattle.sk_spaces.specs.Machine.{do_overlap}
 use Rattle.sk_spaces.specs.Memories.{MemoriesView, block_of}
 use Rattle.sk_copy_states.specs.declared.held.Held.{Held}
-use Rattle.sk_copy_states.specs.Copies.{held_in, home_in, home_store, store_in, state_in, cell_in, pins_in}
-use Rattle.sk_copy_states.specs.Stores.{StoreView, copies_in, changes_in, opened}
+use Rattle.sk_copy_states.specs.Copies.{held_in, home_in, home_store, store_in, state_in, cell_in, pins_in, expected_in}
+use Rattle.sk_copy_states.specs.Stores.{StoreView, copies_in, changes_in, len_in, opened}
+use Rattle.sk_messages.specs.Messages.{MessagesView, Mail, mail_of, left_of, Spoils}
 use Rattle.sk_coherence_laws.specs.Directory.{DirectoryView, copy_at, store_at, cells_of_copy, IsSound}
 use Rattle.sk_coherence_laws.specs.Retires.{Closes, IsClosing}
 use Rattle.sk_coherence_laws.specs.Serves.{Serves, GrowsAt, WasEvicted, unlisted}
 use Rattle.sk_coherence_laws.specs.Steps.{Traces}
 use Rattle.sk_coherence_laws.specs.Traced.{Opens, TracesStep}
+use Rattle.sk_coherence_laws.proofs.MailLemmas.{spoilt-between}
 use Rattle.sk_coherence_laws.proofs.ServesLemmas.{there_or, not_there, grows_same, grows-trans}
 use Rattle.sk_coherence_laws.proofs.StateLemmas.{same_store}
 use Rattle.sk_coherence_laws.proofs.TracedWrite.{some_home}
 use Rattle.sk_coherence_laws.proofs.TracesLemmas.{traces-one, traces-trans, traces-map}
 use Rattle.sk_container.specs.Cells.{HasCell, IsElse}
 use Rattle.sk_container.specs.Changes.{GrowsBut, Writes}
-use Rattle.sk_container.specs.Lines.{IsHosting}
-use Rattle.sk_container.specs.Made.{Spares, Makes, Undoes, IsMaking}
+use Rattle.sk_container.specs.Lines.{IsHosting, TracesOne, TracesThen}
+use Rattle.sk_container.specs.Made.{Spares, Makes, Undoes, NotesMade, IsMaking}
 use Rattle.sk_container.specs.Smart.{SmartView, Holds}
 use Rattle.sk_container.proofs.CellLemmas.{has-served, has-before}
 
@@ -45,6 +48,29 @@ has_same d n s i x h copy cells = record {
   cell = ap (λ o. cell_in o i) cells ∙ h.cell;
 }
 
+apart_from_none : (lo hi : ℕ) → do_overlap 0 0 lo hi ≡ false
+apart_from_none lo hi = grind arith
+
+left_by_none : (s : ℕ) (o : Option Mail) → o ≡ left_of s 0 0 o
+left_by_none s None = refl
+left_by_none s (Some mail) = by (mail.store == s) (do_overlap 0 0 mail.lo mail.hi) (apart_from_none mail.lo mail.hi)
+  where
+    by : (t u : Bool) → u ≡ false → Some mail ≡ (if t && u then None else Some mail)
+    by false u e = refl
+    by true false e = refl
+    by true true e = cc
+
+-- no message is spoilt over no indices
+pub spoilt-none : (old new : MessagesView) (s : ℕ) → new ≡ old → Spoils old new s 0 0
+spoilt-none old new s same = subst (λ (x : MessagesView). Spoils old x s 0 0) (sym same) (record {
+  left = λ number. left_by_none s (mail_of old number);
+  next = refl;
+  flying = omega arith;
+  flying_each = λ copy. omega arith;
+  room = refl;
+  cells = refl;
+})
+
 -- no copy is one of the next store
 module _ (a : DirectoryView) (sound : IsSound a) where
   unlisted_next : (o : Option StoreView) (k : ℕ) → o ≡ None → k < length (copies_in o) → ⊥
@@ -64,10 +90,12 @@ module _ (a : DirectoryView) (sound : IsSound a) where
       owners = λ t i x other h. h;
       stores = λ t other. refl;
       owed = refl;
+      aside = refl;
       next_copy = omega arith;
       ranks = refl;
       capacity = refl;
     };
+    messages = (0, spoilt-none a.messages a.messages a.next refl);
     next = omega arith;
     unowned = λ i x h. not-next h.at h.store;
   }
@@ -90,6 +118,7 @@ module _ (a : DirectoryView) (sound : IsSound a) where
       owners = λ t i x other h. back_open t i x h;
       stores = λ t other. ap (option_map unlisted) (o.stores.others t (λ e. other (e ∙ o.number)));
       owed = o.owed;
+      aside = o.aside;
       next_copy = omega (arith, ap (λ (m : MemoriesView). m.next) o.spaces.memories);
       ranks = ap (λ (m : MemoriesView). m.ranks) o.spaces.memories;
       capacity = ap (λ (m : MemoriesView). m.capacity) o.spaces.memories;
@@ -124,6 +153,7 @@ module _ (a : DirectoryView) (sound : IsSound a) where
           let out : (i : ℕ) → IsElse a.next lo hi (store_in (copy_at b q)) i = λ i e. absurd (not-next q (sym (ap home_store g.home) ∙ e)) in record {
             home = h.home ∙ g.home;
             pins = h.pins ∙ g.pins;
+            expected = h.expected ∙ g.expected;
             readable = λ i r. h.readable i (out i) (g.readable i r);
             cells = λ i r. h.cells i (out i) (g.readable i r) ∙ g.cells i r;
           }
@@ -141,13 +171,15 @@ module _ (a : DirectoryView) (sound : IsSound a) where
             (λ (mid : IsSome (copy_at b q)). let f = sp.fresh q none mid in (
               f.0,
               ⊎_elim (λ (h : GrowsBut b n a.next lo hi q). h.pins ∙ f.1) (λ (e : WasEvicted b n q). absurd (not_there (copy_at n q) e.gone some)) (y.stays q mid),
+              ⊎_elim (λ (h : GrowsBut b n a.next lo hi q). h.expected ∙ f.2) (λ (e : WasEvicted b n q). absurd (not_there (copy_at n q) e.gone some)) (y.stays q mid),
             ))
-            (λ (mid : copy_at b q ≡ None). let f = y.fresh q mid some in (omega (arith, f.0, sp.next_copy), f.1))
+            (λ (mid : copy_at b q ≡ None). let f = y.fresh q mid some in (omega (arith, f.0, sp.next_copy), f.1, f.2))
             (there_or (copy_at b q));
         owned = λ t i x other h. y.owned t i x (λ e. absurd (other (some_nat t a.next e))) (sp.owned t i x other h);
         owners = λ t i x other h. sp.owners t i x other (y.owners t i x (λ e. absurd (other (some_nat t a.next e))) h);
         stores = λ t other. y.stores t ∙ sp.stores t other;
         owed = y.owed ∙ sp.owed;
+        aside = y.aside ∙ sp.aside;
         next_copy = omega (arith, sp.next_copy, y.next_copy);
         ranks = y.ranks ∙ sp.ranks;
         capacity = y.capacity ∙ sp.capacity;
@@ -167,13 +199,15 @@ module _ (a : DirectoryView) (sound : IsSound a) where
           (λ (mid : IsSome (copy_at b q)). let f = sp.fresh q none mid in (
             f.0,
             ⊎_elim (λ (h : GrowsAt b n q). h.pins ∙ f.1) (λ (e : WasEvicted b n q). absurd (not_there (copy_at n q) e.gone some)) (y.stays q mid),
+            ⊎_elim (λ (h : GrowsAt b n q). h.expected ∙ f.2) (λ (e : WasEvicted b n q). absurd (not_there (copy_at n q) e.gone some)) (y.stays q mid),
           ))
-          (λ (mid : copy_at b q ≡ None). let f = y.fresh q mid some in (omega (arith, f.0, sp.next_copy), f.1))
+          (λ (mid : copy_at b q ≡ None). let f = y.fresh q mid some in (omega (arith, f.0, sp.next_copy), f.1, f.2))
           (there_or (copy_at b q));
       owned = λ t i x other h. has-served b n t i x y (sp.owned t i x other h);
       owners = λ t i x other h. sp.owners t i x other (has-before b n t i x y h);
       stores = λ t other. y.stores t ∙ sp.stores t other;
       owed = y.owed ∙ sp.owed;
+      aside = y.aside ∙ sp.aside;
       next_copy = omega (arith, sp.next_copy, y.next_copy);
       ranks = y.ranks ∙ sp.ranks;
       capacity = y.capacity ∙ sp.capacity;
@@ -217,11 +251,12 @@ module _ (a : DirectoryView) (sound : IsSound a) where
             }))
             (sp.stays q there);
         fresh = λ q none some. let same = left_same q some in
-            let f = sp.fresh q none (subst (λ (o : Option Held). IsSome o) same some) in (f.0, ap pins_in same ∙ f.1);
+            let f = sp.fresh q none (subst (λ (o : Option Held). IsSome o) same some) in (f.0, ap pins_in same ∙ f.1, ap expected_in same ∙ f.2);
         owned = λ t i x other h. on_left t i x other (sp.owned t i x other h);
         owners = λ t i x other h. sp.owners t i x other (back_left t i x h);
         stores = λ t other. ap (option_map unlisted) (c.stores t other) ∙ sp.stores t other;
         owed = omega (arith, c.owed, room, sp.owed);
+        aside = c.aside ∙ sp.aside;
         next_copy = omega (arith, sp.next_copy, c.next_copy);
         ranks = c.ranks ∙ sp.ranks;
         capacity = c.capacity ∙ sp.capacity;
@@ -231,6 +266,15 @@ module _ (a : DirectoryView) (sound : IsSound a) where
       unowned-close i x h =
           let some = store_there (copy_at n h.at) a.next h.store in
           not_there (copy_at n h.at) (c.gone h.at (sym (ap store_in (left_same h.at some)) ∙ h.store)) some
+
+  -- no store was opened
+  pub undoes-served : (n : DirectoryView) → Serves a n → Undoes a n
+  undoes-served n y = record {
+    spares = spares-serves a undoes-none.spares n y;
+    messages = (0, spoilt-none a.messages n.messages a.next y.messages);
+    next = omega (arith, y.next);
+    unowned = λ i x h. undoes-none.unowned i x (has-before a n a.next i x y h);
+  }
 
 -- the list of a store that is the same everywhere
 module _ (n : DirectoryView) (smart : SmartView) (ty : Ty) (x : ℤ) where
@@ -287,6 +331,7 @@ module _ (a b : DirectoryView) (id : ℕ) (ty : Ty) (shape : List ℕ) (sound : 
         holds = holds-filled n (record { store = id; shape = shape }) ty x store w.has;
         spares = spares-write a sound b (spares-open a sound b id (opened ty shape None) o) n 0 (cells_of shape) (replicate (cells_of shape) x)
             (subst (λ (k : ℕ). Writes b n k 0 (cells_of shape) (replicate (cells_of shape) x)) o.number w);
+        messages = spoilt-between a.messages b.messages n.messages n.messages id 0 (cells_of shape) o.messages w.alters.messages refl;
       }
 
   pub makes-empty : (x : ℤ) → cells_of shape ≡ 0 → Makes a b (record { store = id; shape = shape }) ty x
@@ -296,12 +341,14 @@ module _ (a b : DirectoryView) (id : ℕ) (ty : Ty) (shape : List ℕ) (sound : 
     store = store_open;
     holds = holds-filled b (record { store = id; shape = shape }) ty x store_open (λ i above below. absurd (omega (arith, below, none)));
     spares = spares-open a sound b id (opened ty shape None) o;
+    messages = subst (λ (k : ℕ). Spoils a.messages b.messages id 0 k) (sym none) (spoilt-none a.messages b.messages id o.messages);
   }
 
   module _ (m n : DirectoryView) (y : Serves b m) where
     pub undoes-left : Serves m n → Undoes a n
     undoes-left z = record {
       spares = spares-serves a sound m (spares-serves a sound b (spares-open a sound b id (opened ty shape None) o) m y) n z;
+      messages = (0, spoilt-none a.messages n.messages a.next (z.messages ∙ y.messages ∙ o.messages));
       next = omega (arith, z.next, y.next, o.next);
       unowned = λ i x h. unowned-open a sound b id (opened ty shape None) o i x (has-before b m a.next i x y (has-before m n a.next i x z h));
     }
@@ -314,9 +361,27 @@ module _ (a b : DirectoryView) (id : ℕ) (ty : Ty) (shape : List ℕ) (sound : 
         = ap (λ (k : ℕ). changes_in (store_at m k)) (sym o.number) ∙ room_of (store_at m id) (opened ty shape None) (y.stores id ∙ store_open) in
         record {
           spares = spares-close a sound m sp n e room;
+          messages = (
+            len_in (store_at m a.next),
+            spoilt-between a.messages m.messages n.messages n.messages a.next 0 (len_in (store_at m a.next)) (y.messages ∙ o.messages) e.messages refl,
+          );
           next = omega (arith, c.next, y.next, o.next);
           unowned = unowned-close a sound m sp n e room;
         }
+
+-- the lines of a store that is filled, with cells that are all the same
+pub notes-filled : (a b n : DirectoryView) (id : ℕ) (ty : Ty) (shape : List ℕ) (x : ℤ) (cells : List ℤ) → cells ≡ replicate (cells_of shape) x → 0 < length cells
+    → TracesOne (line.Store id ty shape) a b → TracesThen (λ copy. line.Fill copy 0 (length cells) x) b n
+    → NotesMade a n (record { store = id; shape = shape }) ty x
+notes-filled a b n id ty shape x cells same some first filled =
+    let many : length (replicate (cells_of shape) x) ≡ cells_of shape = grind (arith, common_steps) in
+    let all : length cells ≡ cells_of shape = ap length same ∙ many in
+    record {
+      opened = b;
+      first = first;
+      filled = λ any. subst (λ (k : ℕ). TracesThen (λ copy. line.Fill copy 0 k x) b n) all filled;
+      empty = λ none. absurd (omega (arith, none, all, some));
+    }
 
 -- the steps of a container that is not made
 module _ (a b m n : DirectoryView) (id len : ℕ) (ty : Ty) (shape : List ℕ) (o : Opens a b id (opened ty shape None)) (opens : TracesStep a b (line.Store id ty shape))

@@ -5,8 +5,9 @@ use Rattle.sk_spaces.specs.declared.step.Step.{Step}
 use Rattle.sk_spaces.specs.Machine.{Machine}
 use Rattle.sk_spaces.specs.Spaces.{SpacesView, NotesStep}
 use Rattle.sk_copy_states.specs.declared.held.Held.{Held}
-use Rattle.sk_copy_states.specs.Copies.{home_in, store_in, state_in, cell_in, pins_in}
+use Rattle.sk_copy_states.specs.Copies.{home_in, store_in, state_in, cell_in, pins_in, expected_in}
 use Rattle.sk_copy_states.specs.Stores.{UsesWrite, changes_in}
+use Rattle.sk_messages.specs.Messages.{MessagesView, Spoils}
 use Rattle.sk_coherence_laws.specs.Directory.{DirectoryView, copy_at, store_at, cells_of_copy}
 use Rattle.sk_coherence_laws.specs.Traced.{IsLike, TracesStep}
 use Rattle.sk_coherence_laws.specs.Writes.{WritesCopy, WritesIn}
@@ -32,6 +33,10 @@ unpinned-state (Some held) r i there is = ap (λ o. state_in o i) is
 unpinned-pins : (p r : Option Held) → IsSome p → Unpinned p r → pins_in r ≡ pins_in p - 1
 unpinned-pins None r there is = cc
 unpinned-pins (Some held) r there is = ap pins_in is
+
+unpinned-expected : (p r : Option Held) → IsSome p → Unpinned p r → expected_in r ≡ expected_in p
+unpinned-expected None r there is = cc
+unpinned-expected (Some held) r there is = ap expected_in is
 
 -- the directory with a name for the next write
 abbrev pub named_as : DirectoryView → Step → DirectoryView
@@ -72,6 +77,26 @@ module _ (d w n : DirectoryView) (line : Step) (copy lo hi : ℕ) (cells : List 
       (same_store (store_in (copy_at d q)) (store_in (copy_at d copy))))
       (cases_eq q copy)
 
+  expected_written : (q : ℕ) → expected_in (copy_at w q) ≡ expected_in (copy_at d q)
+  expected_written q = ⊎_elim
+      (λ (e : q ≡ copy). subst (λ (x : ℕ). expected_in (copy_at w x) ≡ expected_in (copy_at d x)) (sym e) written.states.own.expected)
+      (λ (ne : q ≢ copy). ⊎_elim
+      (λ (fellow : store_in (copy_at d q) ≡ store_in (copy_at d copy)). (written.states.fellows q ne fellow).expected)
+      (λ (other : store_in (copy_at d q) ≢ store_in (copy_at d copy)). ap expected_in (written.states.others q other))
+      (same_store (store_in (copy_at d q)) (store_in (copy_at d copy))))
+      (cases_eq q copy)
+
+  expected_put : (q : ℕ) → expected_in (copy_at n q) ≡ expected_in (copy_at w q)
+  expected_put q = ⊎_elim
+      (λ (e : q ≡ copy). subst (λ (x : ℕ). expected_in (copy_at n x) ≡ expected_in (copy_at w x)) (sym e)
+      (unpinned-expected (copy_at w copy) (copy_at n copy) there_still unpinned))
+      (λ (ne : q ≢ copy). ap expected_in (others q ne))
+      (cases_eq q copy)
+
+  spoilt_put : IfSome (copy_at d copy) (λ held. Spoils d.messages n.messages held.store lo hi)
+  spoilt_put = subst (λ (x : MessagesView). IfSome (copy_at d copy) (λ held. Spoils d.messages x held.store lo hi))
+      (sym (ap (λ (v : DirectoryView). v.messages) same)) written.messages
+
   state_written : (q i : ℕ) → (store_in (copy_at d q) ≡ store_in (copy_at d copy) → (i < lo) ⊎ (hi ≤ i)) → state_in (copy_at w q) i ≡ state_in (copy_at d q) i
   state_written q i out = ⊎_elim
       (λ (fellow : store_in (copy_at d q) ≡ store_in (copy_at d copy)).
@@ -88,12 +113,15 @@ module _ (d w n : DirectoryView) (line : Step) (copy lo hi : ℕ) (cells : List 
       homes = λ q. home_put q ∙ home_written q;
       unpinned = omega (arith, pinned, pins_written copy, unpinned-pins (copy_at w copy) (copy_at n copy) there_still unpinned);
       pins = λ q ne. ap pins_in (others q ne) ∙ pins_written q;
+      expected = λ q. expected_put q ∙ expected_written q;
       owns = λ i above below. state_put copy i ∙ written.states.own.states.inside i above below;
       states = λ q i out. state_put q i ∙ state_written q i out;
       values = subst (λ (o : Option Rattle.sk_spaces.specs.Blocks.BlockView). WritesIn (cell_in (cells_of_copy d copy)) (cell_in o) lo hi cells) (sym (cells_put copy)) written.values;
       others = λ q ne. cells_put q ∙ written.others q ne;
       stores = subst (λ (v : DirectoryView). IfSome (copy_at d copy) (λ held. UsesWrite d.stores v.stores held.store)) (sym same) stores;
       owed = subst (λ (v : DirectoryView). IfSome (copy_at d copy) (λ held. v.owed ≡ d.owed - min (changes_in (store_at d held.store)) 2)) (sym same) owed;
+      messages = spoilt_put;
+      aside = ap (λ (v : DirectoryView). v.aside) same ∙ written.aside;
       next = ap (λ (v : DirectoryView). v.next) same ∙ next;
       next_copy = ap (λ (v : DirectoryView). v.spaces.memories.next) same ∙ next_copy;
       ranks = ap (λ (v : DirectoryView). v.spaces.memories.ranks) same ∙ ranks;
@@ -103,5 +131,5 @@ module _ (d w n : DirectoryView) (line : Step) (copy lo hi : ℕ) (cells : List 
   pub puts-line : TracesStep (named_as d line) w line → ((m : Machine) → IsLike m w → IsLike m n) → TracesOne line d n
   puts-line step like = record {
     noted = subst (λ (v : SpacesView). NotesStep d.spaces v line) (sym (ap (λ (v : DirectoryView). v.spaces) same)) written.noted;
-    traced = λ m l. let t = step m (like-same d (named_as d line) m refl refl refl refl l) in (t.0, like (Rattle.sk_spaces.specs.Rules.after m line) t.1);
+    traced = λ m l. let t = step m (like-same d (named_as d line) m refl refl refl refl refl l) in (t.0, like (Rattle.sk_spaces.specs.Rules.after m line) t.1);
   }

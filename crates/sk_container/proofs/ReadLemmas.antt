@@ -33,6 +33,7 @@ serves-journal d n same memories = serves-kept d n
     (λ q. ap (λ (v : DirectoryView). pins_in (copy_at v q)) same)
     (λ t. ap (λ (v : DirectoryView). store_at v t) same)
     memories (ap (λ (v : DirectoryView). v.next) same) (ap (λ (v : DirectoryView). v.owed) same) (ap (λ (v : DirectoryView). v.named) same)
+    (ap (λ (v : DirectoryView). v.messages) same) (ap (λ (v : DirectoryView). v.aside) same)
 
 -- the cell of an index that a block has
 cell_within : (block : BlockView) (i : ℕ) → block.lo ≤ i → cell_of block i ≡ slice_index_or block.cells (i - block.lo) (pos 0)

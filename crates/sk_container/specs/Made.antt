@@ -5,8 +5,9 @@ use Rattle.sk_base.specs.Shape.{cells_of, shape_of}
 use Rattle.sk_spaces.specs.declared.step.Step.{Step}
 use Rattle.sk_spaces.specs.declared.step.Step.TheVariants.{Store, Fill}
 use Rattle.sk_spaces.specs.Machine.{Machine}
-use Rattle.sk_copy_states.specs.Copies.{pins_in}
+use Rattle.sk_copy_states.specs.Copies.{pins_in, expected_in}
 use Rattle.sk_copy_states.specs.Stores.{opened}
+use Rattle.sk_messages.specs.Messages.{Spoils}
 use Rattle.sk_coherence_laws.specs.Directory.{DirectoryView, copy_at, store_at}
 use Rattle.sk_coherence_laws.specs.Retires.{IsClosing}
 use Rattle.sk_coherence_laws.specs.Serves.{GrowsAt, WasEvicted, unlisted}
@@ -21,26 +22,31 @@ use Rattle.sk_container.specs.Smart.{SmartView, Holds}
 -- but for the list of its copies
 pub record Spares (old new : DirectoryView) : Type 0 where
   pub stays : (q : ℕ) → IsSome (copy_at old q) → GrowsAt old new q ⊎ WasEvicted old new q
-  pub fresh : (q : ℕ) → copy_at old q ≡ None → IsSome (copy_at new q) → (old.spaces.memories.next ≤ q) × (pins_in (copy_at new q) ≡ 0)
+  pub fresh : (q : ℕ) → copy_at old q ≡ None → IsSome (copy_at new q)
+      → (old.spaces.memories.next ≤ q) × (pins_in (copy_at new q) ≡ 0) × (expected_in (copy_at new q) ≡ 0)
   pub owned : (t i : ℕ) (x : ℤ) → t ≢ old.next → HasCell old t i x → HasCell new t i x
   pub owners : (t i : ℕ) (x : ℤ) → t ≢ old.next → HasCell new t i x → HasCell old t i x
   pub stores : (t : ℕ) → t ≢ old.next → option_map unlisted (store_at new t) ≡ option_map unlisted (store_at old t)
   pub owed : new.owed ≡ old.owed
+  pub aside : new.aside ≡ old.aside
   pub next_copy : old.spaces.memories.next ≤ new.spaces.memories.next
   pub ranks : new.spaces.memories.ranks ≡ old.spaces.memories.ranks
   pub capacity : new.spaces.memories.capacity ≡ old.spaces.memories.capacity
 
--- a new store has this cell at each index, and nothing else changed
+-- a new store has this cell at each index, no message over it is in flight, and nothing else changed
 pub record Makes (old new : DirectoryView) (smart : SmartView) (ty : Ty) (x : ℤ) : Type 0 where
   pub number : smart.store ≡ old.next
   pub next : new.next ≡ old.next + 1
   pub store : option_map unlisted (store_at new smart.store) ≡ Some (opened ty smart.shape None)
   pub holds : Holds new smart (replicate (cells_of smart.shape) x)
   pub spares : Spares old new
+  pub messages : Spoils old.messages new.messages smart.store 0 (cells_of smart.shape)
 
--- nothing that was there changed; where memory was wanting for that too, the new store is left, and nobody owns an index of it
+-- nothing that was there changed, and every message over another store is in flight still; where memory was wanting for that too,
+-- the new store is left, and nobody owns an index of it
 pub record Undoes (old new : DirectoryView) : Type 0 where
   pub spares : Spares old new
+  pub messages : (len : ℕ) × Spoils old.messages new.messages old.next 0 len
   pub next : old.next ≤ new.next
   pub unowned : (i : ℕ) (x : ℤ) → HasCell new old.next i x → ⊥
 

@@ -12,7 +12,8 @@ ghost use Rattle.sk_coherence_laws.specs.Owes.{OwesWrite, AcquiresWrite};
 ghost use Rattle.sk_coherence_laws.specs.Acquires.{PinsOne, Acquires, IsRoomFault};
 ghost use Rattle.sk_coherence_laws.specs.Traced.{IsLike};
 ghost use Rattle.sk_spaces.specs.Machine.{Machine};
-ghost use Rattle.sk_coherence.specs.Room.{IsShort, IsAcquireFault, IsEarly};
+ghost use Rattle.sk_coherence.specs.Evicts.{KeepsPinned, KeepsPinnedBut};
+ghost use Rattle.sk_coherence.specs.Room.{IsShort, IsAcquireFault, IsEarly, IsYielding};
 
 use crate::directory::Directory;
 use crate::faults::AcquireFault;
@@ -56,6 +57,7 @@ impl<J: Journal> Directory<J> {
             ≡ Some (record { store = place.store; space = place.space; lo = place.block.lo; hi = place.block.hi })) }
         ensures readable { IfOk result (λ copy. MayRead (copy_at self.new copy.id) need.lo need.hi) }
         ensures pinned { IfOk result (λ copy. 0 < pins_in (copy_at self.new copy.id)) }
+        ensures others { KeepsPinnedBut self.old self.new (record { store = place.store; space = place.space; lo = place.block.lo; hi = place.block.hi }) }
         ensures fault { IfErr result (IsRoomFault self.old place.store place.space place.block.lo place.block.hi) }
         ensures err { OnErr result (Serves self.old self.new) }
         ensures traced { Traces (IsServing place.store place.space place.block.lo place.block.hi) self.old self.new }
@@ -89,6 +91,7 @@ impl<J: Journal> Directory<J> {
             ≡ Some (record { store = store.id; space = space; lo = block.lo; hi = block.hi })) }
         ensures readable { IfOk result (λ copy. MayRead (copy_at self.new copy.id) need.lo need.hi) }
         ensures pinned { IfOk result (λ copy. 0 < pins_in (copy_at self.new copy.id)) }
+        ensures others { KeepsPinnedBut self.old self.new (record { store = store.id; space = space; lo = block.lo; hi = block.hi }) }
         ensures fault { IfErr result (IsAcquireFault self.old store.id space block.lo block.hi) }
         ensures early { IfErr result (IsEarly self.old self.new) }
         ensures short { OnOk result (IsShort self.old store.id space block.lo block.hi → ⊥) }
@@ -144,6 +147,7 @@ impl<J: Journal> Directory<J> {
         ensures ok { IfOk result (λ copy. AcquiresWrite self.old self.new place.store copy.id) }
         ensures home { IfOk result (λ copy. home_in (copy_at self.new copy.id)
             ≡ Some (record { store = place.store; space = place.space; lo = place.block.lo; hi = place.block.hi })) }
+        ensures others { KeepsPinned self.old self.new }
         ensures fault { IfErr result (IsRoomFault self.old place.store place.space place.block.lo place.block.hi) }
         ensures err { OnErr result (Serves self.old self.new) }
         ensures traced { Traces (IsAlloc place.store place.space place.block.lo place.block.hi) self.old self.new }
@@ -173,11 +177,12 @@ impl<J: Journal> Directory<J> {
         ensures ok { IfOk result (λ copy. AcquiresWrite self.old self.new store.id copy.id) }
         ensures home { IfOk result (λ copy. home_in (copy_at self.new copy.id)
             ≡ Some (record { store = store.id; space = space; lo = block.lo; hi = block.hi })) }
+        ensures others { KeepsPinned self.old self.new }
         ensures fault { IfErr result (IsAcquireFault self.old store.id space block.lo block.hi) }
         ensures early { IfErr result (IsEarly self.old self.new) }
         ensures short { OnOk result (IsShort self.old store.id space block.lo block.hi → ⊥) }
         ensures err { OnErr result (Serves self.old self.new) }
-        ensures traced { Traces (IsDue self.old.spaces.memories.capacity space (block.hi - block.lo)) self.old self.new }
+        ensures traced { Traces (IsYielding self.old.spaces.memories.capacity space (block.hi - block.lo)) self.old self.new }
     {
         self.is_sound();
         let place = Place {

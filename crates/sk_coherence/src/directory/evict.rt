@@ -11,7 +11,7 @@ ghost use Rattle.sk_coherence_laws.specs.Moves.{CanMove, OwnsAt};
 ghost use Rattle.sk_coherence_laws.specs.Serves.{Serves, GrowsAt};
 ghost use Rattle.sk_coherence_laws.specs.Steps.{Traces, IsAlloc};
 ghost use Rattle.sk_coherence_laws.specs.Traced.{TracesStep};
-ghost use Rattle.sk_coherence.specs.Evicts.{OwnsNone, IsFar, IsOnHost, Retreats, Evicts, TracesEviction};
+ghost use Rattle.sk_coherence.specs.Evicts.{OwnsNone, IsFar, IsOnHost, KeepsFar, Retreats, Evicts, TracesEviction};
 
 use crate::directory::Directory;
 use sk_base::Range;
@@ -198,13 +198,15 @@ impl<J: Journal> Directory<J> {
         Ok(())
     }
 
-    /// Takes a copy on a rank away that is not pinned. What it owns goes back to the host first, so that every index keeps an owner.
+    /// Takes a copy on a rank away that is not pinned. What it owns goes back to the host first, so that every index keeps an
+    /// owner. Every other copy on a rank is as before.
     pub fn evict(&mut self, alloc: Global, copy: CopyId) -> Result<(), Memory>
         requires there { IsSome (copy_at self.old copy.id) }
         requires far { IsFar (copy_at self.old copy.id) }
         requires unpinned { pins_in (copy_at self.old copy.id) ≡ 0 }
         ensures ok { OnOk result (Evicts self.old self.new copy.id) }
         ensures serves { Serves self.old self.new }
+        ensures others { KeepsFar self.old self.new copy.id }
         ensures traced { TracesEviction self.old self.new copy.id }
     {
         self.is_sound();

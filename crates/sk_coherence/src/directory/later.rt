@@ -1,5 +1,5 @@
 //! Copies that are acquired before all that is needed of them is there.
-ghost use Rattle.std.specs.Prelude.{◌≡◌, ◌≢◌, ℕ, ◌+◌, ◌-◌, ◌<◌, ◌≤◌, ◌++◌, Some, IfSome, IsSome, IfOk, IfErr, OnOk, OnErr, option_to_list};
+ghost use Rattle.std.specs.Prelude.{◌≡◌, ◌≢◌, ℕ, ◌+◌, ◌-◌, ◌<◌, ◌≤◌, ◌++◌, Some, IfSome, IfNone, IsSome, IfOk, IfErr, OnOk, OnErr, option_to_list};
 ghost use Rattle.sk_copy_states.specs.Copies.{KeepsStates, ReachesIn, home_in, state_in, pins_in};
 ghost use Rattle.sk_copy_states.specs.Stores.{IsBlockOf};
 ghost use Rattle.sk_coherence_laws.specs.Directory.{copy_at, store_at};
@@ -8,9 +8,9 @@ ghost use Rattle.sk_coherence_laws.specs.Owned.{HasOwnerAt, IsOwned};
 ghost use Rattle.sk_coherence_laws.specs.Serves.{Serves, GrowsAt};
 ghost use Rattle.sk_coherence_laws.specs.Acquires.{Acquires};
 ghost use Rattle.sk_coherence_laws.specs.Steps.{Traces, IsDue};
-ghost use Rattle.sk_coherence.specs.Evicts.{IsFar};
+ghost use Rattle.sk_coherence.specs.Evicts.{IsFar, KeepsFar, KeepsPinnedBut, MakesOnHost};
 ghost use Rattle.sk_coherence.specs.Room.{IsShort, IsAcquireFault, IsEarly};
-ghost use Rattle.sk_coherence.specs.Later.{IsToSend, AreLeft, IsLooked, IsClose, IsLater, FillsNear};
+ghost use Rattle.sk_coherence.specs.Later.{IsAlone, IsToSend, AreLeft, IsLooked, IsClose, IsLater, IsDueLater};
 
 use crate::directory::Directory;
 use crate::faults::AcquireFault;
@@ -51,6 +51,7 @@ impl<J: Journal> Directory<J> {
         ensures below { result.hi ≤ run.hi }
         ensures can { IfSome result.id (λ from. CanMove self.now from copy.id run.lo result.hi) }
         ensures near { IfSome result.id (λ from. IsClose self.now from copy.id) }
+        ensures none { IfNone result.id (IsAlone self.now copy.id run.lo result.hi) }
     {
         let space = self.copies.get(&copy.id).unwrap().space;
         let store = self.store_of(copy);
@@ -71,9 +72,12 @@ impl<J: Journal> Directory<J> {
         requires some { run.lo < run.hi }
         requires reaches { ReachesIn (copy_at self.old copy.id) run.lo run.hi }
         requires missing { IsStaleAt self.old copy.id run.lo run.hi }
+        requires alone { IsAlone self.old copy.id run.lo run.hi }
         requires owned { (i : ℕ) → run.lo ≤ i → i < run.hi → HasOwnerAt self.old copy.id i }
         ensures serves { Serves self.old self.new }
         ensures traced { Traces IsLater self.old self.new }
+        ensures others { KeepsFar self.old self.new copy.id }
+        ensures made { MakesOnHost self.old self.new }
         ensures grows { (q : ℕ) → IsSome (copy_at self.old q) → GrowsAt self.old self.new q }
         ensures kept { KeepsStates (copy_at self.old copy.id) (copy_at self.new copy.id) }
         ensures sends { IfOk result (λ transfer. IsToSend self.new copy.id transfer) }
@@ -106,6 +110,8 @@ impl<J: Journal> Directory<J> {
         requires owned { (i : ℕ) → rest.lo ≤ i → i < rest.hi → HasOwnerAt self.old copy.id i }
         ensures serves { Serves self.old self.new }
         ensures traced { Traces IsLater self.old self.new }
+        ensures others { KeepsFar self.old self.new copy.id }
+        ensures made { MakesOnHost self.old self.new }
         ensures grows { (q : ℕ) → IsSome (copy_at self.old q) → GrowsAt self.old self.new q }
         ensures before { (i : ℕ) → i < rest.lo → state_in (copy_at self.new copy.id) i ≡ state_in (copy_at self.old copy.id) i }
         ensures looked { IfOk result (λ looked. IsLooked self.new copy.id rest.lo rest.hi looked.hi looked.transfer) }
@@ -153,6 +159,7 @@ impl<J: Journal> Directory<J> {
         requires owned { (i : ℕ) → need.lo ≤ i → i < need.hi → HasOwnerAt self.old copy.id i }
         ensures serves { Serves self.old self.new }
         ensures traced { Traces IsLater self.old self.new }
+        ensures others { KeepsFar self.old self.new copy.id }
         ensures grows { (q : ℕ) → IsSome (copy_at self.old q) → GrowsAt self.old self.new q }
         ensures left { IfOk result (λ transfers. AreLeft self.new copy.id need.lo need.hi transfers.items) }
     {
@@ -186,6 +193,7 @@ impl<J: Journal> Directory<J> {
             ≡ Some (record { store = place.store; space = place.space; lo = place.block.lo; hi = place.block.hi })) }
         ensures left { IfOk result (λ later. AreLeft self.new later.0.id need.lo need.hi later.1.items) }
         ensures pinned { IfOk result (λ later. 0 < pins_in (copy_at self.new later.0.id)) }
+        ensures others { KeepsPinnedBut self.old self.new (record { store = place.store; space = place.space; lo = place.block.lo; hi = place.block.hi }) }
         ensures err { OnErr result (Serves self.old self.new) }
         ensures traced { Traces IsLater self.old self.new }
     {
@@ -222,12 +230,13 @@ impl<J: Journal> Directory<J> {
             ≡ Some (record { store = store.id; space = space; lo = block.lo; hi = block.hi })) }
         ensures left { IfOk result (λ later. AreLeft self.new later.0.id need.lo need.hi later.1.items) }
         ensures pinned { IfOk result (λ later. 0 < pins_in (copy_at self.new later.0.id)) }
+        ensures others { KeepsPinnedBut self.old self.new (record { store = store.id; space = space; lo = block.lo; hi = block.hi }) }
         ensures fault { IfErr result (IsAcquireFault self.old store.id space block.lo block.hi) }
         ensures early { IfErr result (IsEarly self.old self.new) }
         ensures short { OnOk result (IsShort self.old store.id space block.lo block.hi → ⊥) }
         ensures err { OnErr result (Serves self.old self.new) }
         ensures traced { Traces (IsDue self.old.spaces.memories.capacity space (block.hi - block.lo)) self.old self.new }
-        ensures near { OnOk result (0 < space → FillsNear self.old self.new) }
+        ensures near { 0 < space → Traces (IsDueLater self.old.spaces.memories.capacity space (block.hi - block.lo)) self.old self.new }
     {
         if space == 0 {
             let copy = self.acquire_read(alloc, store, space, block, need, chooser)?;

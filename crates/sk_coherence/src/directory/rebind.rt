@@ -13,8 +13,9 @@ use sk_copy_states::stores::rebind;
 use sk_spaces::{Journal, Step};
 
 impl<J: Journal> Directory<J> {
-    /// All cells of a store are to be written anew: every copy of it is stale, and its host block is the whole store from then on.
-    /// A copy of the store was acquired for writing, which made room for this; it takes no memory.
+    /// All cells of a store are to be written anew: every copy of it is stale, messages over it are spoilt, and its host block is
+    /// the whole store from then on. A copy of the store was acquired for writing, which made room for this; it takes no memory.
+    /// It costs a change of each copy's states, and a look at the messages as a write does.
     pub fn rebind(&mut self, store: StoreId)
         requires there { IsSome (store_at self.old store.id) }
         requires acquired { 0 < changes_in (store_at self.old store.id) }
@@ -30,6 +31,7 @@ impl<J: Journal> Directory<J> {
             hi: listed.shape().cells(),
         };
         stale_all(&mut self.copies, listed.copies(), store.id, whole);
+        self.messages.spoil(store.id, whole);
         rebind(&mut self.stores, store.id);
         self.owed -= 1;
         self.ready -= 1;

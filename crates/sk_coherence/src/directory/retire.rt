@@ -9,6 +9,7 @@ ghost use Rattle.sk_coherence_laws.specs.Retires.{Stales, Thins, Retires, Closes
 ghost use Rattle.sk_coherence_laws.specs.Steps.{Traces};
 ghost use Rattle.sk_coherence_laws.specs.Traced.{IsLike, TracesStep};
 ghost use Rattle.sk_spaces.specs.Machine.{Machine};
+ghost use Rattle.sk_messages.specs.Messages.{Spoils};
 ghost use Rattle.sk_spaces.specs.Spaces.{Stays};
 
 use crate::directory::{Directory, note_ready};
@@ -74,6 +75,7 @@ impl<J: Journal> Directory<J> {
             return;
         };
         stale_all(&mut self.copies, listed.copies(), store.id, range);
+        self.messages.spoil(store.id, range);
         self.ready -= 1;
         let step = Step::Stale {
             store: store.id,
@@ -111,7 +113,8 @@ impl<J: Journal> Directory<J> {
         }
     }
 
-    /// A range becomes stale in each copy of a store, and the copies that have all of their block in it are freed.
+    /// A range becomes stale in each copy of a store, messages over it are spoilt, and the copies that have all of their block in it
+    /// are freed.
     pub fn retire(&mut self, alloc: Global, store: StoreId, range: Range) -> Result<(), Memory>
         requires there { IsSome (store_at self.old store.id) }
         requires inside { range.hi ≤ len_in (store_at self.old store.id) }
@@ -126,6 +129,7 @@ impl<J: Journal> Directory<J> {
         self.free_among(store, range);
         Ok(())
     }
+
     /// Whether a copy of a store owns an index. It looks at the store's copies alone.
     fn is_owned(&self, store: StoreId) -> bool
         requires there { IsSome (store_at self.now store.id) }
@@ -140,9 +144,20 @@ impl<J: Journal> Directory<J> {
         }
     }
 
-    /// Notes that all indices of a store are stale, where one of them is owned. The journal has room for the step.
+    /// The messages over a range of a store will not come.
+    fn forget_messages(&mut self, store: StoreId, range: Range)
+        ensures spoilt { Spoils self.old.messages self.new.messages store.id range.lo range.hi }
+        ensures same { self.new ≡ record self.old { messages = self.new.messages } }
+        ensures traced { (m : Machine) → IsLike m self.old → IsLike m self.new }
+    {
+        self.messages.spoil(store.id, range);
+    }
+
+    /// Notes that all indices of a store are stale, where one of them is owned. No message over them is in flight, and the journal
+    /// has room for the step.
     fn give_up(&mut self, store: StoreId)
         requires there { IsSome (store_at self.old store.id) }
+        requires spoilt { Spoils self.old.messages self.old.messages store.id 0 (len_in (store_at self.old store.id)) }
         requires ready { self.old.owed + 1 ≤ self.old.ready }
         ensures same { self.new ≡ record self.old { spaces = self.new.spaces; ready = self.new.ready } }
         ensures memories { self.new.spaces.memories ≡ self.old.spaces.memories }
@@ -195,6 +210,7 @@ impl<J: Journal> Directory<J> {
             lo: 0,
             hi: self.shape(store).cells(),
         };
+        self.forget_messages(store, whole);
         self.give_up(store);
         self.is_sound();
         self.free_among(store, whole);

@@ -5,9 +5,9 @@ ghost use Rattle.sk_copy_states.specs.Copies.{pins_in};
 ghost use Rattle.sk_copy_states.specs.Loose.{loose_in, pinned_in};
 ghost use Rattle.sk_coherence_laws.specs.Directory.{copy_at, store_at};
 ghost use Rattle.sk_coherence_laws.specs.Serves.{Serves};
-ghost use Rattle.sk_coherence_laws.specs.Steps.{Traces, IsDue};
-ghost use Rattle.sk_coherence.specs.Evicts.{IsIn};
-ghost use Rattle.sk_coherence.specs.Room.{IsFull, IsShort, IsAcquireFault, IsEarly, IsGivingWay};
+ghost use Rattle.sk_coherence_laws.specs.Steps.{Traces};
+ghost use Rattle.sk_coherence.specs.Evicts.{IsIn, KeepsPinned};
+ghost use Rattle.sk_coherence.specs.Room.{IsFull, IsShort, IsAcquireFault, IsEarly, IsGivingWay, IsYielding};
 
 use crate::directory::Directory;
 use crate::faults::AcquireFault;
@@ -70,6 +70,7 @@ impl<J: Journal> Directory<J> {
     ) -> Result<(), Memory>
         requires far { 0 < space }
         ensures serves { Serves self.old self.new }
+        ensures pinned { KeepsPinned self.old self.new }
         ensures less { OnOk result (used_at self.new.spaces space < used_at self.old.spaces space) }
         ensures traced { Traces (IsGivingWay space (used_at self.old.spaces space)) self.old self.new }
     {
@@ -91,7 +92,8 @@ impl<J: Journal> Directory<J> {
         requires far { 0 < space }
         requires ranks { space ≤ self.old.spaces.memories.ranks }
         ensures serves { Serves self.old self.new }
-        ensures traced { Traces (IsDue self.old.spaces.memories.capacity space len) self.old self.new }
+        ensures pinned { KeepsPinned self.old self.new }
+        ensures traced { Traces (IsYielding self.old.spaces.memories.capacity space len) self.old self.new }
         ensures ok { OnOk result (IsFull self.new space len → ⊥) }
     {
         self.is_sound();
@@ -111,7 +113,8 @@ impl<J: Journal> Directory<J> {
         requires there { IsSome (store_at self.old place.store) }
         requires ranks { place.space ≤ self.old.spaces.memories.ranks }
         ensures serves { Serves self.old self.new }
-        ensures traced { Traces (IsDue self.old.spaces.memories.capacity place.space (place.block.hi - place.block.lo)) self.old self.new }
+        ensures pinned { KeepsPinned self.old self.new }
+        ensures traced { Traces (IsYielding self.old.spaces.memories.capacity place.space (place.block.hi - place.block.lo)) self.old self.new }
         ensures fault { IfErr result (IsAcquireFault self.old place.store place.space place.block.lo place.block.hi) }
         ensures early { IfErr result (IsEarly self.old self.new) }
         ensures room { OnOk result (IsShort self.old place.store place.space place.block.lo place.block.hi → ⊥) }

@@ -1,12 +1,20 @@
+use Rattle.std.proofs.Common.{ℤ, ◌<◌, length, rules, subst, w64}
+use Rattle.std.proofs.lemmas.Int.{to_z-of_z}
 use Rattle.sk_base.specs.Shape.{cells_of}
 use Rattle.sk_copy_states.specs.Stores.{len_in}
+use Rattle.sk_spaces.specs.declared.step.Step.TheVariants as line
 use Rattle.sk_coherence_laws.specs.Directory.{store_at}
 use Rattle.sk_coherence_laws.proofs.FillSums.{traces-idle}
 use Rattle.sk_coherence_laws.proofs.NamedMoves.{on_err_any}
 use Rattle.sk_coherence_laws.proofs.ServesLemmas.{idle-reserve, serves-idle}
+use Rattle.sk_container.specs.Lines.{TracesThen}
 use Rattle.sk_container.specs.Made.{IsMaking}
-use Rattle.sk_container.proofs.MadeLemmas.{makes-filled, writes-same, either, undoes-closed, undoes-left, traces-undone}
+use Rattle.sk_container.proofs.MadeLemmas.{makes-filled, writes-same, either, undoes-served, undoes-closed, undoes-left, notes-filled, traces-undone}
 use Rattle.sk_container.proofs.made.open_with.Goals as goal
+
+pub returns-in_err-store-clause-err : goal.returns-in_err-store-clause-err
+returns-in_err-store-clause-err g c = let a = c.args.dir.now in let n = c.open.new.self in let e = c.in_err-store.ensures in
+    on_err_any c.from_residual.result (undoes-served a c.is_sound.ensures n (serves-idle a n (idle-reserve a n e.err e.spaces e.kept)))
 
 pub returns-in_err-store-clause-traced : goal.returns-in_err-store-clause-traced
 returns-in_err-store-clause-traced g c = let a = c.args.dir.now in let e = c.in_err-store.ensures in
@@ -16,6 +24,16 @@ pub returns-in-Ok-clause-made : goal.returns-in-Ok-clause-made
 returns-in-Ok-clause-made g c = let b = c.open.new.self in let n = c.fill_all.new.dir in let id = c.in_ok-store.store.id in let shape = c.args.shape.now in
     makes-filled c.args.dir.now b id c.args.ty shape c.is_sound.ensures c.in_ok-store.ensures.ok n c.args.cell
     (writes-same b n id (cells_of shape) c.args.cells.now c.args.cell c.requires.same c.in-Ok.ensures.written)
+
+pub returns-in-Ok-clause-noted : goal.returns-in-Ok-clause-noted
+returns-in-Ok-clause-noted g c =
+    let a = c.args.dir.now in let b = c.open.new.self in let n = c.fill_all.new.dir in let o = c.in_ok-store.ensures in
+    let len = length c.args.cells.now in
+    let some : 0 < len = search rules in
+    let filled : TracesThen (λ copy. line.Fill copy 0 len c.args.cell) b n
+    = subst (λ (x : ℤ). TracesThen (λ copy. line.Fill copy 0 len x) b n) (to_z-of_z w64 c.args.cell c.ranges.cell) c.in-Ok.ensures.noted in
+    notes-filled a b n c.in_ok-store.store.id c.args.ty c.args.shape.now c.args.cell c.args.cells.now c.requires.same some
+    (record { noted = o.ok.spaces.noted; traced = o.traced }) filled
 
 pub returns-in-Err-clause-err : goal.returns-in-Err-clause-err
 returns-in-Err-clause-err g c =

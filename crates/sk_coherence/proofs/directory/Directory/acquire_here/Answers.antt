@@ -1,10 +1,13 @@
-use Rattle.std.proofs.Common.{arith, rules, refl, ◌∙◌}
+use Rattle.std.proofs.Common.{Option, arith, rules, refl, sym, subst, ◌∙◌}
+use Rattle.sk_copy_states.specs.declared.held.Held.{Held}
+use Rattle.sk_copy_states.specs.Copies.{KeepsStates}
 use Rattle.sk_coherence_laws.proofs.OweLemmas.{pinned-more}
 use Rattle.sk_coherence_laws.specs.Directory.{copy_at}
 use Rattle.sk_coherence_laws.specs.Acquires.{IsRoomFault}
 use Rattle.sk_coherence_laws.proofs.NamedMoves.{on_err_any, if_err_of}
 use Rattle.sk_coherence_laws.proofs.ServesLemmas.{serves-trans}
 use Rattle.sk_coherence_laws.proofs.AcquireLemmas.{home_there, reaches_home, owned-on, fault-room, traces-place, traces-filled, traces-pinned, home-pinned, read-pinned, serves-unpinned}
+use Rattle.sk_coherence.proofs.PinnedLemmas.{but-placed}
 use Rattle.sk_coherence.proofs.directory.Directory.acquire_here.Goals as goal
 
 pub fill_needed-requires-clause-there : goal.fill_needed-requires-clause-there
@@ -86,3 +89,20 @@ returns-clause-pinned g c = let p = c.args.place in let id = c.in_ok-copy.copy.i
           (home_there (copy_at c.fill_needed.new.self id) (record { store = p.store; space = p.space; lo = p.block.lo; hi = p.block.hi }) (c.fill_needed.ensures.stays.home ∙ c.in_ok-copy.ensures.home))
           c.in_ok-pin.ensures.ok.here,
     )
+
+pub returns-in_err-fill_needed-clause-others : goal.returns-in_err-fill_needed-clause-others
+returns-in_err-fill_needed-clause-others g c = let p = c.args.place in
+    but-placed c.args.self.now c.place.new.self c.fill_needed.new.self c.in_ok-copy.copy.id (record { store = p.store; space = p.space; lo = p.block.lo; hi = p.block.hi })
+    c.place.ensures.places.kept c.in_ok-copy.ensures.home (λ q ne far there. c.fill_needed.ensures.others q ne)
+
+pub returns-in_err-pin-clause-others : goal.returns-in_err-pin-clause-others
+returns-in_err-pin-clause-others g c = let p = c.args.place in let b = c.place.new.self in
+    but-placed c.args.self.now b c.pin.new.self c.in_ok-copy.copy.id (record { store = p.store; space = p.space; lo = p.block.lo; hi = p.block.hi })
+    c.place.ensures.places.kept c.in_ok-copy.ensures.home
+    (λ q ne far there. subst (λ (o : Option Held). KeepsStates (copy_at b q) o) (sym (c.in_err-pin.ensures.err q)) (c.fill_needed.ensures.others q ne))
+
+pub returns-clause-others : goal.returns-clause-others
+returns-clause-others g c = let p = c.args.place in let b = c.place.new.self in
+    but-placed c.args.self.now b c.pin.new.self c.in_ok-copy.copy.id (record { store = p.store; space = p.space; lo = p.block.lo; hi = p.block.hi })
+    c.place.ensures.places.kept c.in_ok-copy.ensures.home
+    (λ q ne far there. subst (λ (o : Option Held). KeepsStates (copy_at b q) o) (sym (c.in_ok-pin.ensures.ok.others q ne)) (c.fill_needed.ensures.others q ne))

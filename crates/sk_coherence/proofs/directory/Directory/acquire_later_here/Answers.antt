@@ -1,4 +1,6 @@
-use Rattle.std.proofs.Common.{IsSome, arith, sym, ap}
+use Rattle.std.proofs.Common.{Option, IsSome, arith, sym, subst, ap}
+use Rattle.sk_copy_states.specs.declared.held.Held.{Held}
+use Rattle.sk_copy_states.specs.Copies.{KeepsStates}
 use Rattle.sk_coherence_laws.proofs.OweLemmas.{pinned-more}
 use Rattle.sk_coherence_laws.specs.Directory.{DirectoryView, copy_at}
 use Rattle.sk_coherence_laws.proofs.AcquireLemmas.{home_there, owned-on, serves-unpinned}
@@ -8,6 +10,7 @@ use Rattle.sk_coherence_laws.proofs.TracedWrite.{some_home}
 use Rattle.sk_coherence_laws.proofs.TracesLemmas.{traces-trans, traces-none}
 use Rattle.sk_coherence.specs.Later.{IsLater}
 use Rattle.sk_coherence.proofs.LaterLemmas.{alloc-later, left-pinned}
+use Rattle.sk_coherence.proofs.PinnedLemmas.{but-placed}
 use Rattle.sk_coherence.proofs.directory.Directory.acquire_later_here.Goals as goal
 
 pub returns-in-Err-clause-traced : goal.returns-in-Err-clause-traced
@@ -99,3 +102,20 @@ returns-clause-pinned g c =
     let id = c.in-Ok.copy.id in
     let there : IsSome (copy_at b id) = home_there (copy_at b id) (record { store = p.store; space = p.space; lo = p.block.lo; hi = p.block.hi }) c.in-Ok.ensures.home in
     omega (arith, pinned-more (copy_at n id) (copy_at k id) (some_home (copy_at b id) (copy_at n id) (sym (c.look_needed.ensures.grows id there).home) there) c.in_ok-pin.ensures.ok.here)
+
+pub returns-in_err-transfers-clause-others : goal.returns-in_err-transfers-clause-others
+returns-in_err-transfers-clause-others g c = let p = c.args.place in
+    but-placed c.args.self.now c.place.new.self c.look_needed.new.self c.in-Ok.copy.id (record { store = p.store; space = p.space; lo = p.block.lo; hi = p.block.hi })
+    c.place.ensures.places.kept c.in-Ok.ensures.home (λ q ne far there. c.look_needed.ensures.others q ne there far)
+
+pub returns-in_err-pin-clause-others : goal.returns-in_err-pin-clause-others
+returns-in_err-pin-clause-others g c = let p = c.args.place in let b = c.place.new.self in
+    but-placed c.args.self.now b c.pin.new.self c.in-Ok.copy.id (record { store = p.store; space = p.space; lo = p.block.lo; hi = p.block.hi })
+    c.place.ensures.places.kept c.in-Ok.ensures.home
+    (λ q ne far there. subst (λ (o : Option Held). KeepsStates (copy_at b q) o) (sym (c.in_err-pin.ensures.err q)) (c.look_needed.ensures.others q ne there far))
+
+pub returns-clause-others : goal.returns-clause-others
+returns-clause-others g c = let p = c.args.place in let b = c.place.new.self in
+    but-placed c.args.self.now b c.pin.new.self c.in-Ok.copy.id (record { store = p.store; space = p.space; lo = p.block.lo; hi = p.block.hi })
+    c.place.ensures.places.kept c.in-Ok.ensures.home
+    (λ q ne far there. subst (λ (o : Option Held). KeepsStates (copy_at b q) o) (sym (c.in_ok-pin.ensures.ok.others q ne)) (c.look_needed.ensures.others q ne there far))

@@ -4,6 +4,7 @@ use Rattle.sk_coherence_laws.proofs.ServesLemmas.{idle-none, serves-idle}
 use Rattle.sk_coherence_laws.proofs.FillSums.{traces-idle}
 use Rattle.sk_coherence.specs.Room.{IsGivingWay}
 use Rattle.sk_coherence.proofs.RoomLemmas.{far_in, less-taken, traces-giving}
+use Rattle.sk_coherence.proofs.PinnedLemmas.{pinned-far}
 use Rattle.sk_coherence.proofs.directory.Directory.evict_one.Goals as goal
 
 pub evict-requires-clause-far : goal.evict-requires-clause-far
@@ -24,3 +25,9 @@ returns-clause-less g c = less-taken c.args.self.now c.evict.new.self c.in_ok-co
 
 pub returns-clause-traced : goal.returns-clause-traced
 returns-clause-traced g c = traces-giving c.args.self.now c.evict.new.self c.in_ok-copy.copy.id c.args.space c.requires.far c.in_ok-copy.ensures.far c.evict.ensures.traced
+
+pub returns-in_err-evict-clause-pinned : goal.returns-in_err-evict-clause-pinned
+returns-in_err-evict-clause-pinned g c = pinned-far c.args.self.now c.evict.new.self c.in_ok-copy.copy.id c.in_ok-copy.ensures.unpinned c.evict.ensures.others
+
+pub returns-clause-pinned : goal.returns-clause-pinned
+returns-clause-pinned g c = pinned-far c.args.self.now c.evict.new.self c.in_ok-copy.copy.id c.in_ok-copy.ensures.unpinned c.evict.ensures.others

@@ -15,15 +15,15 @@ use Rattle.sk_coherence.proofs.directory.Directory.fill.Goals as goal
 
 pub invariant_of-self : goal.invariant_of-self
 invariant_of-self g c =
-    let d : DirectoryView = record { spaces = c.self.inside.spaces; copies = c.self.inside.copies.entries; stores = c.self.inside.stores.entries; next = c.self.inside.next; ready = c.self.inside.ready; owed = c.self.inside.owed; named = c.self.inside.named } in
+    let d : DirectoryView = record { spaces = c.self.inside.spaces; copies = c.self.inside.copies.entries; stores = c.self.inside.stores.entries; next = c.self.inside.next; ready = c.self.inside.ready; owed = c.self.inside.owed; named = c.self.inside.named; messages = c.self.inside.messages; aside = c.self.inside.aside } in
     let n : DirectoryView = record d { copies = c.reserve_one.new.copies.entries } in
     sound-kept d n (λ q. subst (λ (o : Option Held). KeepsStates (copy_at d q) o) (sym (c.in_err-reserve_one.ensures.err q)) (keeps_same (copy_at d q)))
-    c.self.invariant refl (λ t. refl) refl c.self.invariant.owed c.self.invariant.ready
+    c.self.invariant refl (λ t. refl) refl refl refl c.self.invariant.owed c.self.invariant.ready
 
 pub invariant_of-self-2 : goal.invariant_of-self-2
 invariant_of-self-2 g c =
-    let d : DirectoryView = record { spaces = c.self.inside.spaces; copies = c.self.inside.copies.entries; stores = c.self.inside.stores.entries; next = c.self.inside.next; ready = c.self.inside.ready; owed = c.self.inside.owed; named = c.self.inside.named } in
-    let n : DirectoryView = record { spaces = c.move_as.new.spaces; copies = c.set_one.new.copies.entries; stores = c.self.inside.stores.entries; next = c.self.inside.next; ready = c.self.inside.ready - 1; owed = c.self.inside.owed; named = c.self.inside.named } in
+    let d : DirectoryView = record { spaces = c.self.inside.spaces; copies = c.self.inside.copies.entries; stores = c.self.inside.stores.entries; next = c.self.inside.next; ready = c.self.inside.ready; owed = c.self.inside.owed; named = c.self.inside.named; messages = c.self.inside.messages; aside = c.self.inside.aside } in
+    let n : DirectoryView = record { spaces = c.move_as.new.spaces; copies = c.set_one.new.copies.entries; stores = c.self.inside.stores.entries; next = c.self.inside.next; ready = c.self.inside.ready - 1; owed = c.self.inside.owed; named = c.self.inside.named; messages = c.self.inside.messages; aside = c.self.inside.aside } in
     let t = c.args.transfer in
     let can : CanMove d t.from.id t.to.id t.range.lo t.range.hi = subst (λ (x : DirectoryView). CanMove x t.from.id t.to.id t.range.lo t.range.hi) (sym c.self.view_is) c.requires.can in
     let missing : IsStaleAt d t.to.id t.range.lo t.range.hi = subst (λ (x : DirectoryView). IsStaleAt x t.to.id t.range.lo t.range.hi) (sym c.self.view_is) c.requires.missing in
@@ -35,13 +35,13 @@ invariant_of-self-2 g c =
     sound-fill d n t.from.id t.to.id t.range.lo t.range.hi c.self.invariant can (omega arith) missing c.move_as.ensures
     (sets_after (copy_at d t.to.id) mid (copy_at n t.to.id) t.range.lo t.range.hi Valid r.states r.pins s)
     (λ q ne. c.set_one.ensures.others q ne ∙ r.others q ne)
-    (room_left d (copy_at d t.to.id) mid (copy_at n t.to.id) c.in_ok-room.room can.target room r.ok r.home s.home s.room)
-    refl refl (omega (arith, more)) (omega (arith, more, c.self.invariant.ready, c.move_as.ensures.noted.spare))
+    (room_left d (copy_at d t.to.id) mid (copy_at n t.to.id) c.in_ok-room.room can.target room r.ok r.home s.home s.expected s.room)
+    refl refl refl refl (omega (arith, more)) (omega (arith, more, c.self.invariant.ready, c.move_as.ensures.noted.spare))
 
 pub returns-clause-ok : goal.returns-clause-ok
 returns-clause-ok g c =
-    let d : DirectoryView = record { spaces = c.self.inside.spaces; copies = c.self.inside.copies.entries; stores = c.self.inside.stores.entries; next = c.self.inside.next; ready = c.self.inside.ready; owed = c.self.inside.owed; named = c.self.inside.named } in
-    let n : DirectoryView = record { spaces = c.move_as.new.spaces; copies = c.set_one.new.copies.entries; stores = c.self.inside.stores.entries; next = c.self.inside.next; ready = c.self.inside.ready - 1; owed = c.self.inside.owed; named = c.self.inside.named } in
+    let d : DirectoryView = record { spaces = c.self.inside.spaces; copies = c.self.inside.copies.entries; stores = c.self.inside.stores.entries; next = c.self.inside.next; ready = c.self.inside.ready; owed = c.self.inside.owed; named = c.self.inside.named; messages = c.self.inside.messages; aside = c.self.inside.aside } in
+    let n : DirectoryView = record { spaces = c.move_as.new.spaces; copies = c.set_one.new.copies.entries; stores = c.self.inside.stores.entries; next = c.self.inside.next; ready = c.self.inside.ready - 1; owed = c.self.inside.owed; named = c.self.inside.named; messages = c.self.inside.messages; aside = c.self.inside.aside } in
     let t = c.args.transfer in
     let can : CanMove d t.from.id t.to.id t.range.lo t.range.hi = subst (λ (x : DirectoryView). CanMove x t.from.id t.to.id t.range.lo t.range.hi) (sym c.self.view_is) c.requires.can in
     let missing : IsStaleAt d t.to.id t.range.lo t.range.hi = subst (λ (x : DirectoryView). IsStaleAt x t.to.id t.range.lo t.range.hi) (sym c.self.view_is) c.requires.missing in
@@ -56,13 +56,15 @@ returns-clause-ok g c =
       others = λ q ne. c.set_one.ensures.others q ne ∙ r.others q ne;
       values = values d n t.from.id t.to.id t.range.lo t.range.hi c.self.invariant can (omega arith) missing c.move_as.ensures target
           (λ q ne. c.set_one.ensures.others q ne ∙ r.others q ne)
-          (room_left d (copy_at d t.to.id) mid (copy_at n t.to.id) c.in_ok-room.room can.target room r.ok r.home s.home s.room) refl refl;
+          (room_left d (copy_at d t.to.id) mid (copy_at n t.to.id) c.in_ok-room.room can.target room r.ok r.home s.home s.expected s.room) refl refl refl refl;
       other_values = c.move_as.ensures.memories.blocks.others;
       rest = record {
         stores = refl;
         next = refl;
         owed = refl;
         named = refl;
+        messages = refl;
+        aside = refl;
         next_copy = c.move_as.ensures.memories.next;
         ranks = c.move_as.ensures.memories.ranks;
         capacity = c.move_as.ensures.memories.capacity;
@@ -73,8 +75,8 @@ returns-clause-ok g c =
 
 pub returns-clause-traced : goal.returns-clause-traced
 returns-clause-traced g c =
-    let d : DirectoryView = record { spaces = c.self.inside.spaces; copies = c.self.inside.copies.entries; stores = c.self.inside.stores.entries; next = c.self.inside.next; ready = c.self.inside.ready; owed = c.self.inside.owed; named = c.self.inside.named } in
-    let n : DirectoryView = record { spaces = c.move_as.new.spaces; copies = c.set_one.new.copies.entries; stores = c.self.inside.stores.entries; next = c.self.inside.next; ready = c.self.inside.ready - 1; owed = c.self.inside.owed; named = c.self.inside.named } in
+    let d : DirectoryView = record { spaces = c.self.inside.spaces; copies = c.self.inside.copies.entries; stores = c.self.inside.stores.entries; next = c.self.inside.next; ready = c.self.inside.ready; owed = c.self.inside.owed; named = c.self.inside.named; messages = c.self.inside.messages; aside = c.self.inside.aside } in
+    let n : DirectoryView = record { spaces = c.move_as.new.spaces; copies = c.set_one.new.copies.entries; stores = c.self.inside.stores.entries; next = c.self.inside.next; ready = c.self.inside.ready - 1; owed = c.self.inside.owed; named = c.self.inside.named; messages = c.self.inside.messages; aside = c.self.inside.aside } in
     let t = c.args.transfer in
     let can : CanMove d t.from.id t.to.id t.range.lo t.range.hi = subst (λ (x : DirectoryView). CanMove x t.from.id t.to.id t.range.lo t.range.hi) (sym c.self.view_is) c.requires.can in
     let missing : IsStaleAt d t.to.id t.range.lo t.range.hi = subst (λ (x : DirectoryView). IsStaleAt x t.to.id t.range.lo t.range.hi) (sym c.self.view_is) c.requires.missing in
@@ -86,5 +88,5 @@ returns-clause-traced g c =
     (traced-fill d n t.from.id t.to.id t.range.lo t.range.hi c.self.invariant can (omega arith) missing c.move_as.ensures
     (sets_after (copy_at d t.to.id) mid (copy_at n t.to.id) t.range.lo t.range.hi Valid r.states r.pins s)
     (λ q ne. c.set_one.ensures.others q ne ∙ r.others q ne)
-    (room_left d (copy_at d t.to.id) mid (copy_at n t.to.id) c.in_ok-room.room can.target room r.ok r.home s.home s.room)
-    refl refl)
+    (room_left d (copy_at d t.to.id) mid (copy_at n t.to.id) c.in_ok-room.room can.target room r.ok r.home s.home s.expected s.room)
+    refl refl refl refl)

@@ -9,7 +9,7 @@ use Rattle.sk_coherence.proofs.directory.Directory.find.Goals as goal
 
 pub returns-in_err-id-clause-none : goal.returns-in_err-id-clause-none
 returns-in_err-id-clause-none g c =
-    let d : DirectoryView = record { spaces = c.self.inside.spaces; copies = c.self.inside.copies.entries; stores = c.self.inside.stores.entries; next = c.self.inside.next; ready = c.self.inside.ready; owed = c.self.inside.owed; named = c.self.inside.named } in
+    let d : DirectoryView = record { spaces = c.self.inside.spaces; copies = c.self.inside.copies.entries; stores = c.self.inside.stores.entries; next = c.self.inside.next; ready = c.self.inside.ready; owed = c.self.inside.owed; named = c.self.inside.named; messages = c.self.inside.messages; aside = c.self.inside.aside } in
     let s = c.args.store.id in
     let ids : copies_in (store_at d s) ≡ c.copies.result.now = ap copies_in (sym c.in_ok-listed.ensures.value) ∙ sym c.copies.ensures in
     let none : (k : ℕ) → k < length (copies_in (store_at d s)) → home_in (copy_at d (slice_index (copies_in (store_at d s)) k)) ≢ Some (record { store = s; space = c.args.space; lo = c.args.block.lo; hi = c.args.block.hi })

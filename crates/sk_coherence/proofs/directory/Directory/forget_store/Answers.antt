@@ -6,7 +6,7 @@ use Rattle.sk_coherence.proofs.directory.Directory.forget_store.Goals as goal
 
 pub invariant_of-self : goal.invariant_of-self
 invariant_of-self g c =
-    let d : DirectoryView = record { spaces = c.self.inside.spaces; copies = c.self.inside.copies.entries; stores = c.self.inside.stores.entries; next = c.self.inside.next; ready = c.self.inside.ready; owed = c.self.inside.owed; named = c.self.inside.named } in
+    let d : DirectoryView = record { spaces = c.self.inside.spaces; copies = c.self.inside.copies.entries; stores = c.self.inside.stores.entries; next = c.self.inside.next; ready = c.self.inside.ready; owed = c.self.inside.owed; named = c.self.inside.named; messages = c.self.inside.messages; aside = c.self.inside.aside } in
     let s = c.args.store.id in
     let none : (q : ℕ) → store_in (copy_at d q) ≢ Some s = subst (λ (x : DirectoryView). (q : ℕ) → store_in (copy_at x q) ≢ Some s) (sym c.self.view_is) c.requires.none in
     let less : c.saturating_sub-self-inside.result ≤ d.owed = search rules in

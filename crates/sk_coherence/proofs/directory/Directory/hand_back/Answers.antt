@@ -12,14 +12,14 @@ use Rattle.sk_coherence.proofs.directory.Directory.hand_back.Goals as goal
 
 pub invariant_of-self : goal.invariant_of-self
 invariant_of-self g c =
-    let d : DirectoryView = record { spaces = c.self.inside.spaces; copies = c.self.inside.copies.entries; stores = c.self.inside.stores.entries; next = c.self.inside.next; ready = c.self.inside.ready; owed = c.self.inside.owed; named = c.self.inside.named } in
+    let d : DirectoryView = record { spaces = c.self.inside.spaces; copies = c.self.inside.copies.entries; stores = c.self.inside.stores.entries; next = c.self.inside.next; ready = c.self.inside.ready; owed = c.self.inside.owed; named = c.self.inside.named; messages = c.self.inside.messages; aside = c.self.inside.aside } in
     let n : DirectoryView = record d { copies = c.hand_over.new.copies.entries } in
-    sound-kept d n c.in_err-hand_over.ensures.err c.self.invariant refl (λ t. refl) refl c.self.invariant.owed c.self.invariant.ready
+    sound-kept d n c.in_err-hand_over.ensures.err c.self.invariant refl (λ t. refl) refl refl refl c.self.invariant.owed c.self.invariant.ready
 
 pub invariant_of-self-2 : goal.invariant_of-self-2
 invariant_of-self-2 g c =
-    let d : DirectoryView = record { spaces = c.self.inside.spaces; copies = c.self.inside.copies.entries; stores = c.self.inside.stores.entries; next = c.self.inside.next; ready = c.self.inside.ready; owed = c.self.inside.owed; named = c.self.inside.named } in
-    let n : DirectoryView = record { spaces = c.move_as.new.spaces; copies = c.hand_over.new.copies.entries; stores = c.self.inside.stores.entries; next = c.self.inside.next; ready = c.self.inside.ready - 1; owed = c.self.inside.owed; named = c.self.inside.named } in
+    let d : DirectoryView = record { spaces = c.self.inside.spaces; copies = c.self.inside.copies.entries; stores = c.self.inside.stores.entries; next = c.self.inside.next; ready = c.self.inside.ready; owed = c.self.inside.owed; named = c.self.inside.named; messages = c.self.inside.messages; aside = c.self.inside.aside } in
+    let n : DirectoryView = record { spaces = c.move_as.new.spaces; copies = c.hand_over.new.copies.entries; stores = c.self.inside.stores.entries; next = c.self.inside.next; ready = c.self.inside.ready - 1; owed = c.self.inside.owed; named = c.self.inside.named; messages = c.self.inside.messages; aside = c.self.inside.aside } in
     let t = c.args.transfer in
     let can : CanMove d t.from.id t.to.id t.range.lo t.range.hi = subst (λ (x : DirectoryView). CanMove x t.from.id t.to.id t.range.lo t.range.hi) (sym c.self.view_is) c.requires.can in
     let owns : OwnsAt d t.from.id t.range.lo t.range.hi = subst (λ (x : DirectoryView). OwnsAt x t.from.id t.range.lo t.range.hi) (sym c.self.view_is) c.requires.owns in
@@ -30,12 +30,12 @@ invariant_of-self-2 g c =
     e.ok.target e.ok.source e.ok.others
     (room_left_too d (copy_at d t.to.id) (copy_at d t.to.id) (copy_at n t.to.id) c.in_ok-room.room can.target room e.target_left refl e.ok.target.home)
     (room_left_too d (copy_at d t.to.id) (copy_at d t.from.id) (copy_at n t.from.id) c.in_ok-room.room can.target room e.source_left can.store e.ok.source.home)
-    refl refl (omega (arith, more)) (omega (arith, more, c.self.invariant.ready, c.move_as.ensures.noted.spare))
+    refl refl refl refl (omega (arith, more)) (omega (arith, more, c.self.invariant.ready, c.move_as.ensures.noted.spare))
 
 pub returns-clause-ok : goal.returns-clause-ok
 returns-clause-ok g c =
-    let d : DirectoryView = record { spaces = c.self.inside.spaces; copies = c.self.inside.copies.entries; stores = c.self.inside.stores.entries; next = c.self.inside.next; ready = c.self.inside.ready; owed = c.self.inside.owed; named = c.self.inside.named } in
-    let n : DirectoryView = record { spaces = c.move_as.new.spaces; copies = c.hand_over.new.copies.entries; stores = c.self.inside.stores.entries; next = c.self.inside.next; ready = c.self.inside.ready - 1; owed = c.self.inside.owed; named = c.self.inside.named } in
+    let d : DirectoryView = record { spaces = c.self.inside.spaces; copies = c.self.inside.copies.entries; stores = c.self.inside.stores.entries; next = c.self.inside.next; ready = c.self.inside.ready; owed = c.self.inside.owed; named = c.self.inside.named; messages = c.self.inside.messages; aside = c.self.inside.aside } in
+    let n : DirectoryView = record { spaces = c.move_as.new.spaces; copies = c.hand_over.new.copies.entries; stores = c.self.inside.stores.entries; next = c.self.inside.next; ready = c.self.inside.ready - 1; owed = c.self.inside.owed; named = c.self.inside.named; messages = c.self.inside.messages; aside = c.self.inside.aside } in
     let t = c.args.transfer in
     let can : CanMove d t.from.id t.to.id t.range.lo t.range.hi = subst (λ (x : DirectoryView). CanMove x t.from.id t.to.id t.range.lo t.range.hi) (sym c.self.view_is) c.requires.can in
     let owns : OwnsAt d t.from.id t.range.lo t.range.hi = subst (λ (x : DirectoryView). OwnsAt x t.from.id t.range.lo t.range.hi) (sym c.self.view_is) c.requires.owns in
@@ -48,13 +48,15 @@ returns-clause-ok g c =
           e.ok.target e.ok.source e.ok.others
           (room_left_too d (copy_at d t.to.id) (copy_at d t.to.id) (copy_at n t.to.id) c.in_ok-room.room can.target room e.target_left refl e.ok.target.home)
           (room_left_too d (copy_at d t.to.id) (copy_at d t.from.id) (copy_at n t.from.id) c.in_ok-room.room can.target room e.source_left can.store e.ok.source.home)
-          refl refl;
+          refl refl refl refl;
       other_values = c.move_as.ensures.memories.blocks.others;
       rest = record {
         stores = refl;
         next = refl;
         owed = refl;
         named = refl;
+        messages = refl;
+        aside = refl;
         next_copy = c.move_as.ensures.memories.next;
         ranks = c.move_as.ensures.memories.ranks;
         capacity = c.move_as.ensures.memories.capacity;
@@ -65,8 +67,8 @@ returns-clause-ok g c =
 
 pub returns-clause-traced : goal.returns-clause-traced
 returns-clause-traced g c =
-    let d : DirectoryView = record { spaces = c.self.inside.spaces; copies = c.self.inside.copies.entries; stores = c.self.inside.stores.entries; next = c.self.inside.next; ready = c.self.inside.ready; owed = c.self.inside.owed; named = c.self.inside.named } in
-    let n : DirectoryView = record { spaces = c.move_as.new.spaces; copies = c.hand_over.new.copies.entries; stores = c.self.inside.stores.entries; next = c.self.inside.next; ready = c.self.inside.ready - 1; owed = c.self.inside.owed; named = c.self.inside.named } in
+    let d : DirectoryView = record { spaces = c.self.inside.spaces; copies = c.self.inside.copies.entries; stores = c.self.inside.stores.entries; next = c.self.inside.next; ready = c.self.inside.ready; owed = c.self.inside.owed; named = c.self.inside.named; messages = c.self.inside.messages; aside = c.self.inside.aside } in
+    let n : DirectoryView = record { spaces = c.move_as.new.spaces; copies = c.hand_over.new.copies.entries; stores = c.self.inside.stores.entries; next = c.self.inside.next; ready = c.self.inside.ready - 1; owed = c.self.inside.owed; named = c.self.inside.named; messages = c.self.inside.messages; aside = c.self.inside.aside } in
     let t = c.args.transfer in
     let can : CanMove d t.from.id t.to.id t.range.lo t.range.hi = subst (λ (x : DirectoryView). CanMove x t.from.id t.to.id t.range.lo t.range.hi) (sym c.self.view_is) c.requires.can in
     let owns : OwnsAt d t.from.id t.range.lo t.range.hi = subst (λ (x : DirectoryView). OwnsAt x t.from.id t.range.lo t.range.hi) (sym c.self.view_is) c.requires.owns in
@@ -77,4 +79,4 @@ returns-clause-traced g c =
     e.ok.target e.ok.source e.ok.others
     (room_left_too d (copy_at d t.to.id) (copy_at d t.to.id) (copy_at n t.to.id) c.in_ok-room.room can.target room e.target_left refl e.ok.target.home)
     (room_left_too d (copy_at d t.to.id) (copy_at d t.from.id) (copy_at n t.from.id) c.in_ok-room.room can.target room e.source_left can.store e.ok.source.home)
-    refl refl)
+    refl refl refl refl)

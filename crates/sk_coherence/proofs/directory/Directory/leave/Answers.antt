@@ -8,9 +8,10 @@ use Rattle.sk_coherence_laws.proofs.FreeLemmas.{store_listed}
 use Rattle.sk_coherence_laws.proofs.ServesLemmas.{serves-trans, grows-trans}
 use Rattle.sk_coherence_laws.proofs.TracedWrite.{some_home}
 use Rattle.sk_coherence_laws.proofs.TracesLemmas.{traces-trans}
-use Rattle.sk_coherence.specs.Evicts.{IsOnHost}
+use Rattle.sk_coherence.specs.Evicts.{IsOnHost, KeepsFar, MakesOnHost}
 use Rattle.sk_coherence.specs.Later.{IsLater}
-use Rattle.sk_coherence.proofs.LaterLemmas.{alloc-later, fill-later, host-can, host-at, host-stale}
+use Rattle.sk_coherence.proofs.LaterLemmas.{alloc-later, fill-later, host-can, host-at, host-stale, alone-on, alone-less, made-then}
+use Rattle.sk_coherence.proofs.PinnedLemmas.{far-placed}
 use Rattle.sk_coherence.proofs.RetreatLemmas.{spaces_apart}
 use Rattle.sk_coherence.proofs.WayLemmas.{index_inside, block_around}
 use Rattle.sk_coherence.proofs.directory.Directory.leave.Goals as goal
@@ -206,7 +207,11 @@ returns-clause-sends g c =
     (subst (λ (h : Option Home). IfSome h (λ home. 0 < home.space)) (sym kb.home) c.requires.far) (some_home (copy_at a id) (copy_at b id) (sym kb.home) c.requires.there)
     c.in_ok-from.ensures.home refl (ap (copy_at b) e) in
     let kept : KeepsStates (copy_at a id) (copy_at n id) = kept-trans (copy_at a id) (copy_at b id) (copy_at n id) kb (c.fill_needed.ensures.others id apart) in
-    let at : home_in (copy_at n from) ≡ Some (record { store = c.store_of-store.result.id; space = 0; lo = c.host_block-block.result.lo; hi = c.host_block-block.result.hi }) = c.fill_needed.ensures.stays.home ∙ c.in_ok-from.ensures.home in record {
+    let at : home_in (copy_at n from) ≡ Some (record { store = c.store_of-store.result.id; space = 0; lo = c.host_block-block.result.lo; hi = c.host_block-block.result.hi }) = c.fill_needed.ensures.stays.home ∙ c.in_ok-from.ensures.home in
+    let others : KeepsFar a n id = far-placed a b n id from (record { store = s; space = 0; lo = block.lo; hi = block.hi }) c.host_copy.ensures.places.kept c.in_ok-from.ensures.home refl
+    c.fill_needed.ensures.others in
+    let made : MakesOnHost a n = made-then a b n c.host_copy.ensures.places.made c.fill_needed.ensures.grows in
+    record {
       to = refl;
       host = host-at a n id from s c.args.run.lo c.min.result c.args.run.hi block.lo block.hi c.requires.there c.requires.far c.store_of-store.ensures c.requires.reaches c.requires.missing kept at
           c.host_block-block.ensures.above (omega (arith, m)) (omega (arith, m)) c.in_ok-fill_needed.ensures.ok;
@@ -215,4 +220,24 @@ returns-clause-sends g c =
           c.host_block-block.ensures.above (omega (arith, m)) (omega (arith, m)) c.in_ok-fill_needed.ensures.ok;
       stale = host-stale a n id from s c.args.run.lo c.min.result c.args.run.hi block.lo block.hi c.requires.there c.requires.far c.store_of-store.ensures c.requires.reaches c.requires.missing kept at
           c.host_block-block.ensures.above (omega (arith, m)) (omega (arith, m)) c.in_ok-fill_needed.ensures.ok;
+      alone = alone-on a n id c.requires.there c.requires.far (λ q some. (c.fill_needed.ensures.grows q).home ∙ (c.host_copy.ensures.stays q some).home) others made c.args.run.lo c.min.result
+          (alone-less a id c.args.run.lo c.min.result c.args.run.hi (omega (arith, m)) c.requires.alone);
     }
+
+pub returns-in_err-fill_needed-clause-others : goal.returns-in_err-fill_needed-clause-others
+returns-in_err-fill_needed-clause-others g c =
+    far-placed c.args.self.now c.host_copy.new.self c.fill_needed.new.self c.args.copy.id c.in_ok-from.from.id (record { store = c.store_of-store.result.id; space = 0; lo = c.host_block-block.result.lo; hi = c.host_block-block.result.hi })
+    c.host_copy.ensures.places.kept c.in_ok-from.ensures.home refl c.fill_needed.ensures.others
+
+pub returns-clause-others : goal.returns-clause-others
+returns-clause-others g c =
+    far-placed c.args.self.now c.host_copy.new.self c.fill_needed.new.self c.args.copy.id c.in_ok-from.from.id (record { store = c.store_of-store.result.id; space = 0; lo = c.host_block-block.result.lo; hi = c.host_block-block.result.hi })
+    c.host_copy.ensures.places.kept c.in_ok-from.ensures.home refl c.fill_needed.ensures.others
+
+pub returns-in_err-fill_needed-clause-made : goal.returns-in_err-fill_needed-clause-made
+returns-in_err-fill_needed-clause-made g c =
+    made-then c.args.self.now c.host_copy.new.self c.fill_needed.new.self c.host_copy.ensures.places.made c.fill_needed.ensures.grows
+
+pub returns-clause-made : goal.returns-clause-made
+returns-clause-made g c =
+    made-then c.args.self.now c.host_copy.new.self c.fill_needed.new.self c.host_copy.ensures.places.made c.fill_needed.ensures.grows

@@ -1,10 +1,15 @@
-use Rattle.std.proofs.Common.{List, arith, sym, subst}
+use Rattle.std.proofs.Common.{List, ◌<◌, Option, IfSome, IsSome, arith, sym, subst}
+use Rattle.sk_spaces.specs.Machine.{Home}
 use Rattle.sk_copies.specs.declared.Transfer.{Transfer}
 use Rattle.sk_coherence_laws.proofs.FillSums.{owner-carried}
 use Rattle.sk_coherence_laws.proofs.ServesLemmas.{serves-trans}
 use Rattle.sk_coherence_laws.proofs.TracesLemmas.{traces-trans}
+use Rattle.sk_coherence_laws.proofs.TracedWrite.{some_home}
+use Rattle.sk_coherence_laws.specs.Directory.{copy_at}
+use Rattle.sk_coherence.specs.Evicts.{IsFar}
 use Rattle.sk_coherence.specs.Later.{AreLeft, IsLater}
 use Rattle.sk_coherence.proofs.LaterLemmas.{grows-more, left-step, looked-bounds}
+use Rattle.sk_coherence.proofs.PinnedLemmas.{far-trans}
 use Rattle.sk_coherence.proofs.directory.Directory.look_needed.Goals as goal
 
 pub look-requires-clause-owned : goal.look-requires-clause-owned
@@ -70,12 +75,25 @@ parts-preserved g c =
     let looked = c.in_ok-looked.looked in
     let is = c.in_ok-looked.ensures.looked in
     let bounds = looked-bounds n id c.parts.lo need.hi looked.hi looked.transfer is in
+    let home = (v.grows id c.requires.there).home in
+    let there : IsSome (copy_at b id) = some_home (copy_at a id) (copy_at b id) (sym home) c.requires.there in
+    let far : IsFar (copy_at b id) = subst (λ (h : Option Home). IfSome h (λ home. 0 < home.space)) (sym home) c.requires.far in
     record {
       above = omega (arith, v.above, bounds.0);
       below = bounds.1;
       serves = serves-trans a b n c.is_sound.ensures v.serves c.look.ensures.serves;
       traced = traces-trans IsLater a b n v.traced c.look.ensures.traced;
       grows = grows-more a b n v.grows c.look.ensures.grows;
+      others = far-trans a b n id v.others c.look.ensures.others;
       left = subst (λ (ts : List Transfer). AreLeft n id need.lo looked.hi ts) (sym c.in_ok-keep.ensures)
-          (left-step b n id need.lo c.parts.lo need.hi looked.hi c.parts.transfers.items looked.transfer c.look.ensures.grows c.look.ensures.before v.above v.left is);
+          (left-step b n id need.lo c.parts.lo need.hi looked.hi c.parts.transfers.items looked.transfer c.look.ensures.grows c.look.ensures.before there far
+          c.look.ensures.others c.look.ensures.made v.above v.left is);
     }
+
+pub returns-in_err-looked-clause-others : goal.returns-in_err-looked-clause-others
+returns-in_err-looked-clause-others g c =
+    far-trans c.args.self.now c.parts.self c.look.new.self c.args.copy.id c.parts.invariant.others c.look.ensures.others
+
+pub returns-in_err-keep-clause-others : goal.returns-in_err-keep-clause-others
+returns-in_err-keep-clause-others g c =
+    far-trans c.args.self.now c.parts.self c.look.new.self c.args.copy.id c.parts.invariant.others c.look.ensures.others

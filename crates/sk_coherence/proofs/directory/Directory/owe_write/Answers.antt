@@ -16,22 +16,22 @@ use Rattle.sk_coherence.proofs.directory.Directory.owe_write.Goals as goal
 
 pub invariant_of-self : goal.invariant_of-self
 invariant_of-self g c =
-    let d : DirectoryView = record { spaces = c.self.inside.spaces; copies = c.self.inside.copies.entries; stores = c.self.inside.stores.entries; next = c.self.inside.next; ready = c.self.inside.ready; owed = c.self.inside.owed; named = c.self.inside.named } in
+    let d : DirectoryView = record { spaces = c.self.inside.spaces; copies = c.self.inside.copies.entries; stores = c.self.inside.stores.entries; next = c.self.inside.next; ready = c.self.inside.ready; owed = c.self.inside.owed; named = c.self.inside.named; messages = c.self.inside.messages; aside = c.self.inside.aside } in
     let n : DirectoryView = record d { copies = c.reserve_listed.new.copies.entries } in
-    sound-kept d n c.reserve_listed.ensures.states c.self.invariant refl (λ t. refl) refl c.self.invariant.owed c.self.invariant.ready
+    sound-kept d n c.reserve_listed.ensures.states c.self.invariant refl (λ t. refl) refl refl refl c.self.invariant.owed c.self.invariant.ready
 
 pub invariant_of-self-in_err-pin : goal.invariant_of-self-in_err-pin
 invariant_of-self-in_err-pin g c =
-    let d : DirectoryView = record { spaces = c.self.inside.spaces; copies = c.self.inside.copies.entries; stores = c.self.inside.stores.entries; next = c.self.inside.next; ready = c.self.inside.ready; owed = c.self.inside.owed; named = c.self.inside.named } in
+    let d : DirectoryView = record { spaces = c.self.inside.spaces; copies = c.self.inside.copies.entries; stores = c.self.inside.stores.entries; next = c.self.inside.next; ready = c.self.inside.ready; owed = c.self.inside.owed; named = c.self.inside.named; messages = c.self.inside.messages; aside = c.self.inside.aside } in
     let n : DirectoryView = record d { copies = c.pin.new.copies.entries } in
     let mid : ℕ → Option Held = held_in c.reserve_listed.new.copies.entries in
     sound-kept d n (λ q. kept-trans (copy_at d q) (mid q) (copy_at n q) (c.reserve_listed.ensures.states q)
     (keeps_all mid (copy_at n) c.args.copy.id c.pin.ensures.states c.pin.ensures.others q))
-    c.self.invariant refl (λ t. refl) refl c.self.invariant.owed c.self.invariant.ready
+    c.self.invariant refl (λ t. refl) refl refl refl c.self.invariant.owed c.self.invariant.ready
 
 pub invariant_of-self-2 : goal.invariant_of-self-2
 invariant_of-self-2 g c =
-    let d : DirectoryView = record { spaces = c.self.inside.spaces; copies = c.self.inside.copies.entries; stores = c.self.inside.stores.entries; next = c.self.inside.next; ready = c.self.inside.ready; owed = c.self.inside.owed; named = c.self.inside.named } in
+    let d : DirectoryView = record { spaces = c.self.inside.spaces; copies = c.self.inside.copies.entries; stores = c.self.inside.stores.entries; next = c.self.inside.next; ready = c.self.inside.ready; owed = c.self.inside.owed; named = c.self.inside.named; messages = c.self.inside.messages; aside = c.self.inside.aside } in
     let n : DirectoryView = record d { copies = c.pin.new.copies.entries; stores = c.expect_write.new.stores.entries; owed = c.self.inside.owed + 2 } in
     let s = c.args.store.id in
     let copy = c.args.copy.id in
@@ -50,6 +50,8 @@ invariant_of-self-2 g c =
       spaces = refl;
       next = refl;
       named = refl;
+      messages = refl;
+      aside = refl;
     } in
     let room = c.in-Some-checked_add.room in
     let sum : room ≡ c.in-Some.listed.now.room + 2 = search rules in
@@ -62,7 +64,7 @@ invariant_of-self-2 g c =
 
 pub returns-clause-ok : goal.returns-clause-ok
 returns-clause-ok g c =
-    let d : DirectoryView = record { spaces = c.self.inside.spaces; copies = c.self.inside.copies.entries; stores = c.self.inside.stores.entries; next = c.self.inside.next; ready = c.self.inside.ready; owed = c.self.inside.owed; named = c.self.inside.named } in
+    let d : DirectoryView = record { spaces = c.self.inside.spaces; copies = c.self.inside.copies.entries; stores = c.self.inside.stores.entries; next = c.self.inside.next; ready = c.self.inside.ready; owed = c.self.inside.owed; named = c.self.inside.named; messages = c.self.inside.messages; aside = c.self.inside.aside } in
     let n : DirectoryView = record d { copies = c.pin.new.copies.entries; stores = c.expect_write.new.stores.entries; owed = c.self.inside.owed + 2 } in
     let s = c.args.store.id in
     let copy = c.args.copy.id in
@@ -81,12 +83,14 @@ returns-clause-ok g c =
       spaces = refl;
       next = refl;
       named = refl;
+      messages = refl;
+      aside = refl;
     } in
     subst (λ (x : DirectoryView). OwesWrite x n s copy) c.self.view_is o
 
 pub returns-clause-traced : goal.returns-clause-traced
 returns-clause-traced g c =
-    let d : DirectoryView = record { spaces = c.self.inside.spaces; copies = c.self.inside.copies.entries; stores = c.self.inside.stores.entries; next = c.self.inside.next; ready = c.self.inside.ready; owed = c.self.inside.owed; named = c.self.inside.named } in
+    let d : DirectoryView = record { spaces = c.self.inside.spaces; copies = c.self.inside.copies.entries; stores = c.self.inside.stores.entries; next = c.self.inside.next; ready = c.self.inside.ready; owed = c.self.inside.owed; named = c.self.inside.named; messages = c.self.inside.messages; aside = c.self.inside.aside } in
     let n : DirectoryView = record d { copies = c.pin.new.copies.entries; stores = c.expect_write.new.stores.entries; owed = c.self.inside.owed + 2 } in
     let s = c.args.store.id in
     let copy = c.args.copy.id in
@@ -105,6 +109,8 @@ returns-clause-traced g c =
       spaces = refl;
       next = refl;
       named = refl;
+      messages = refl;
+      aside = refl;
     } in
     let room = c.in-Some-checked_add.room in
     let sum : room ≡ c.in-Some.listed.now.room + 2 = search rules in

@@ -7,13 +7,13 @@ use Rattle.sk_coherence.proofs.directory.Directory.pin.Goals as goal
 
 pub invariant_of-self : goal.invariant_of-self
 invariant_of-self g c =
-    let d : DirectoryView = record { spaces = c.self.inside.spaces; copies = c.self.inside.copies.entries; stores = c.self.inside.stores.entries; next = c.self.inside.next; ready = c.self.inside.ready; owed = c.self.inside.owed; named = c.self.inside.named } in
+    let d : DirectoryView = record { spaces = c.self.inside.spaces; copies = c.self.inside.copies.entries; stores = c.self.inside.stores.entries; next = c.self.inside.next; ready = c.self.inside.ready; owed = c.self.inside.owed; named = c.self.inside.named; messages = c.self.inside.messages; aside = c.self.inside.aside } in
     let n : DirectoryView = record d { copies = c.pin.new.copies.entries } in
-    sound-kept d n (keeps_all (copy_at d) (copy_at n) c.args.copy.id c.pin.ensures.states c.pin.ensures.others) c.self.invariant refl (λ t. refl) refl c.self.invariant.owed c.self.invariant.ready
+    sound-kept d n (keeps_all (copy_at d) (copy_at n) c.args.copy.id c.pin.ensures.states c.pin.ensures.others) c.self.invariant refl (λ t. refl) refl refl refl c.self.invariant.owed c.self.invariant.ready
 
 pub returns-clause-traced : goal.returns-clause-traced
 returns-clause-traced g c =
-    let d : DirectoryView = record { spaces = c.self.inside.spaces; copies = c.self.inside.copies.entries; stores = c.self.inside.stores.entries; next = c.self.inside.next; ready = c.self.inside.ready; owed = c.self.inside.owed; named = c.self.inside.named } in
+    let d : DirectoryView = record { spaces = c.self.inside.spaces; copies = c.self.inside.copies.entries; stores = c.self.inside.stores.entries; next = c.self.inside.next; ready = c.self.inside.ready; owed = c.self.inside.owed; named = c.self.inside.named; messages = c.self.inside.messages; aside = c.self.inside.aside } in
     let n : DirectoryView = record d { copies = c.pin.new.copies.entries } in
     subst (λ (d : DirectoryView). (m : Machine) → IsLike m d → IsLike m n) c.self.view_is
-    (λ m l. like-kept d n (keeps_all (copy_at d) (copy_at n) c.args.copy.id c.pin.ensures.states c.pin.ensures.others) m refl (λ t. refl) refl l)
+    (λ m l. like-kept d n (keeps_all (copy_at d) (copy_at n) c.args.copy.id c.pin.ensures.states c.pin.ensures.others) m refl (λ t. refl) refl refl l)

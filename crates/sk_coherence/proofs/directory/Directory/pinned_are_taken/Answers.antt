@@ -7,6 +7,6 @@ use Rattle.sk_coherence.proofs.directory.Directory.pinned_are_taken.Goals as goa
 
 pub returns : goal.returns
 returns g c =
-    let d : DirectoryView = record { spaces = c.self.inside.spaces; copies = c.self.inside.copies.entries; stores = c.self.inside.stores.entries; next = c.self.inside.next; ready = c.self.inside.ready; owed = c.self.inside.owed; named = c.self.inside.named } in
+    let d : DirectoryView = record { spaces = c.self.inside.spaces; copies = c.self.inside.copies.entries; stores = c.self.inside.stores.entries; next = c.self.inside.next; ready = c.self.inside.ready; owed = c.self.inside.owed; named = c.self.inside.named; messages = c.self.inside.messages; aside = c.self.inside.aside } in
     subst (λ (x : DirectoryView). pinned_in c.args.space x.copies ≤ used_at x.spaces c.args.space) c.self.view_is
     (pinned-taken d c.args.space c.self.invariant (apart-sorted d.copies c.len-copies.ensures.ordered))

@@ -10,7 +10,7 @@ use Rattle.sk_coherence.proofs.directory.Directory.source.Goals as goal
 
 pub returns-clause-can : goal.returns-clause-can
 returns-clause-can g c =
-    let d : DirectoryView = record { spaces = c.self.inside.spaces; copies = c.self.inside.copies.entries; stores = c.self.inside.stores.entries; next = c.self.inside.next; ready = c.self.inside.ready; owed = c.self.inside.owed; named = c.self.inside.named } in
+    let d : DirectoryView = record { spaces = c.self.inside.spaces; copies = c.self.inside.copies.entries; stores = c.self.inside.stores.entries; next = c.self.inside.next; ready = c.self.inside.ready; owed = c.self.inside.owed; named = c.self.inside.named; messages = c.self.inside.messages; aside = c.self.inside.aside } in
     let s = c.in_ok-held.held.now.store in
     let to = c.args.to.id in
     let lo = c.args.run.lo in

@@ -4,10 +4,11 @@ use Rattle.std.specs.Prelude.{Option, Some, None, Result, Err, slice_get, unwrap
 use Rattle.sk_base.specs.declared.number.Op.{Op}
 use Rattle.sk_base.specs.declared.number.Trap.{Trap}
 use Rattle.sk_base.specs.declared.number.Ty.{Ty}
+use Rattle.sk_meaning.specs.Evaluation.{Argument, field_of}
 use Rattle.sk_isa.specs.Coded.{Point, Routine, Next, by_trap, next_of}
 use Rattle.sk_isa.specs.Configurations.{Goes, Stuck, going, giving}
 use Rattle.sk_isa.specs.declared.code.Instr.{Instr}
-use Rattle.sk_isa.specs.declared.code.Instr.TheVariants.{Push, Load, Neg, Inv, Not, Wrap, Binary}
+use Rattle.sk_isa.specs.declared.code.Instr.TheVariants.{Push, Load, Field, Neg, Inv, Not, Wrap, Binary}
 use Rattle.std.specs.Prelude.{IfSome}
 use Rattle.std.proofs.lemmas.List.{length-set}
 use Rattle.std.proofs.lemmas.Option.{IfSome_then, slice_get-get_or}
@@ -18,16 +19,30 @@ use Rattle.sk_columns.specs.declared.combine.Action.TheVariants as action
 use Rattle.sk_columns.specs.declared.level.Level.{Level}
 use Rattle.sk_columns.specs.declared.level.Level.TheVariants.{Here, Column, Number}
 use Rattle.sk_columns.proofs.Stacks.{on_top, row_above}
+use Rattle.sk_columns.specs.Known.{Known}
 
-pub push-leads : (number : ℤ) (known : ℕ → Option ℤ) (stack : List ℤ) → Leads (Push number) known stack (number ∷ stack)
+abbrev goes_to : Point → Next
+goes_to point = Goes point
+
+pub push-leads : (number : ℤ) (known : Known) (stack : List ℤ) → Leads (Push number) known stack (number ∷ stack)
 push-leads number known stack = record { goes = λ routine at slots turns have. refl }
 
-pub load-leads : (slot : ℕ) (number : ℤ) (known : ℕ → Option ℤ) (stack : List ℤ) → known slot ≡ Some number
+pub load-leads : (slot : ℕ) (number : ℤ) (known : Known) (stack : List ℤ) → known.slots slot ≡ Some number
     → Leads (Load slot) known stack (number ∷ stack)
 load-leads slot number known stack is =
     record {
       goes = λ routine at slots turns have.
-          ap (λ (o : Option ℤ). elim o [ Some value ↦ going {F = Trap} (point_of at stack slots turns) (value ∷ stack) | None ↦ Stuck ]) (have slot number is);
+          ap (λ (o : Option ℤ). elim o [ Some value ↦ going {F = Trap} (point_of at stack slots turns) (value ∷ stack) | None ↦ Stuck ]) (have.stored slot number is);
+    }
+
+pub field-leads : (slot : ℕ) (name : List ℕ) (number : ℤ) (known : Known) (stack : List ℤ) → known.fields slot name ≡ Some number
+    → Leads (Field slot name) known stack (number ∷ stack)
+field-leads slot name number known stack is =
+    record {
+      goes = λ routine at slots turns have.
+          let found = have.given slot name number is in
+          ap (λ (o : Option Argument). elim o [ Some argument ↦ going {F = Trap} (point_of at stack slots turns) (field_of argument name ∷ stack) | None ↦ Stuck ]) found.1
+          ∙ ap (λ (x : ℤ). goes_to (point_of (suc at) (x ∷ stack) slots turns)) found.2;
     }
 
 pub two_binary : (instr : Instr) (op : Op) (ty : Ty) → instr ≡ Binary op ty → TakesTwo instr (action.Binary op ty)
@@ -45,9 +60,6 @@ ok_value x = Ok x
 
 of_ok : (x y : ℤ) → ok_value x ≡ ok_value y → x ≡ y
 of_ok x y e = ap (λ (r : Result ℤ Trap). elim r [ Ok value ↦ value | Err trap ↦ x ]) e
-
-abbrev goes_to : Point → Next
-goes_to point = Goes point
 
 one_by : (instr plain : Instr) (act : Action) (f : ℤ → ℤ) → ((a : ℤ) → made_by act a (pos 0) ≡ Ok (f a))
     → ((routine : Routine) (at : ℕ) (slots : List ℤ) (turns : ℕ) (a : ℤ) (rest : List ℤ)
@@ -76,7 +88,7 @@ pub one_wrap : (instr : Instr) → instr ≡ Wrap → TakesOne instr action.Wrap
 one_wrap instr is = one_by instr Wrap action.Wrap _ (λ a. refl) (λ routine at slots turns a rest. refl) is
 
 -- one level more
-pub done_push : (instr : Instr) (known : ℕ → ℕ → Option ℤ) (block height after : ℕ) (levels levels_after : List Level) (rows : List ℤ) (level : Level)
+pub done_push : (instr : Instr) (known : ℕ → Known) (block height after : ℕ) (levels levels_after : List Level) (rows : List ℤ) (level : Level)
     → IsPushed level height levels after levels_after
     → ((place : ℕ) (stack : List ℤ) → place < block → Leads instr (known place) stack (cell_of level rows (height * block + place) (known place) ∷ stack))
     → IsDone instr known block height levels rows after levels_after rows
@@ -94,7 +106,7 @@ done_push instr known block height after levels levels_after rows level pushed l
 }
 
 -- a number is pushed
-pub done_number : (instr : Instr) (number : ℤ) (known : ℕ → ℕ → Option ℤ) (block height : ℕ) (levels levels_after : List Level) (rows : List ℤ) (pushed : Option ℕ)
+pub done_number : (instr : Instr) (number : ℤ) (known : ℕ → Known) (block height : ℕ) (levels levels_after : List Level) (rows : List ℤ) (pushed : Option ℕ)
     → instr ≡ Push number → IfSome pushed (λ after. IsPushed (Number number) height levels after levels_after)
     → IfSome pushed (λ after. IsDone instr known block height levels rows after levels_after rows)
 done_number instr number known block height levels levels_after rows pushed is done =
@@ -102,28 +114,55 @@ done_number instr number known block height levels levels_after rows pushed is d
     (λ place stack within. subst (λ (i : Instr). Leads i (known place) stack (number ∷ stack)) (sym is) (push-leads number (known place) stack)))
 
 -- a slot is loaded in which one number stands at all places
-pub done_uniform : (slot : ℕ) (number : ℤ) (known : ℕ → ℕ → Option ℤ) (block height : ℕ) (levels levels_after : List Level) (rows : List ℤ) (pushed : Option ℕ)
-    → ((place : ℕ) → known place slot ≡ Some number) → IfSome pushed (λ after. IsPushed (Number number) height levels after levels_after)
+pub done_uniform : (slot : ℕ) (number : ℤ) (known : ℕ → Known) (block height : ℕ) (levels levels_after : List Level) (rows : List ℤ) (pushed : Option ℕ)
+    → ((place : ℕ) → (known place).slots slot ≡ Some number) → IfSome pushed (λ after. IsPushed (Number number) height levels after levels_after)
     → IfSome pushed (λ after. IsDone (Load slot) known block height levels rows after levels_after rows)
 done_uniform slot number known block height levels levels_after rows pushed is done =
     IfSome_then pushed done (λ after p. done_push (Load slot) known block height after levels levels_after rows (Number number) p
     (λ place stack within. load-leads slot number (known place) stack (is place)))
 
 -- a slot is loaded that has a column
-pub done_column : (slot : ℕ) (column : List ℤ) (known : ℕ → ℕ → Option ℤ) (block height : ℕ) (levels levels_after : List Level) (rows : List ℤ) (pushed : Option ℕ)
-    → block ≤ length column → ((place : ℕ) → place < length column → known place slot ≡ slice_get column place)
+pub done_column : (slot : ℕ) (column : List ℤ) (known : ℕ → Known) (block height : ℕ) (levels levels_after : List Level) (rows : List ℤ) (pushed : Option ℕ)
+    → block ≤ length column → ((place : ℕ) → place < length column → (known place).slots slot ≡ slice_get column place)
     → IfSome pushed (λ after. IsPushed (Column slot) height levels after levels_after)
     → IfSome pushed (λ after. IsDone (Load slot) known block height levels rows after levels_after rows)
 done_column slot column known block height levels levels_after rows pushed long is done =
     IfSome_then pushed done (λ after p. done_push (Load slot) known block height after levels levels_after rows (Column slot) p
     (λ place stack within.
-    let here : known place slot ≡ Some (slice_index_or column place (pos 0)) =
+    let here : (known place).slots slot ≡ Some (slice_index_or column place (pos 0)) =
     is place (omega arith) ∙ slice_get-get_or column place (pos 0) (omega arith) in
-    load-leads slot (unwrap_or (known place slot) (pos 0)) (known place) stack
+    load-leads slot (unwrap_or ((known place).slots slot) (pos 0)) (known place) stack
     (here ∙ ap (λ (o : Option ℤ). Some (unwrap_or o (pos 0))) (sym here))))
 
+-- a row is put on the levels
+pub done_row : (instr : Instr) (known : ℕ → Known) (block height after : ℕ) (levels levels_after : List Level) (rows rows_after : List ℤ)
+    → after ≡ suc height → height < length levels → levels_after ≡ slice_set levels height Here
+    → ((index : ℕ) → index < height * block → slice_index_or rows_after index (pos 0) ≡ slice_index_or rows index (pos 0))
+    → ((place : ℕ) (stack : List ℤ) → place < block → Leads instr (known place) stack (slice_index_or rows_after (height * block + place) (pos 0) ∷ stack))
+    → IsDone instr known block height levels rows after levels_after rows_after
+done_row instr known block height after levels levels_after rows rows_after more room is kept leads = record {
+  inside = let size : length levels_after ≡ length levels = ap length is ∙ length-set levels height Here in omega arith;
+  leads = λ place within rest.
+      subst (λ (n : ℕ). Leads instr (known place) (stack_of levels rows block place (known place) rest height) (stack_of levels_after rows_after block place (known place) rest n)) (sym more)
+      (subst (λ (xs : List ℤ). Leads instr (known place) (stack_of levels rows block place (known place) rest height) xs)
+      (sym (on_top levels levels_after rows rows_after block place (known place) rest height Here within room is kept))
+      (leads place (stack_of levels rows block place (known place) rest height) within));
+}
+
+-- a field is read that has consecutive numbers
+pub done_field : (slot : ℕ) (name : List ℕ) (first : ℕ) (known : ℕ → Known) (block height after : ℕ) (levels levels_after : List Level) (rows rows_after : List ℤ)
+    → ((place : ℕ) → (known place).fields slot name ≡ Some (pos (first + place)))
+    → after ≡ suc height → height < length levels → levels_after ≡ slice_set levels height Here
+    → ((index : ℕ) → index < height * block → slice_index_or rows_after index (pos 0) ≡ slice_index_or rows index (pos 0))
+    → ((place : ℕ) → place < block → slice_index_or rows_after (height * block + place) (pos 0) ≡ pos (first + place))
+    → IsDone (Field slot name) known block height levels rows after levels_after rows_after
+done_field slot name first known block height after levels levels_after rows rows_after told more room is kept here =
+    done_row (Field slot name) known block height after levels levels_after rows rows_after more room is kept
+    (λ place stack within. field-leads slot name (slice_index_or rows_after (height * block + place) (pos 0)) (known place) stack
+    (told place ∙ ap (λ (x : ℤ). Some x) (sym (here place within))))
+
 -- one level in place of two
-pub done_two : (instr : Instr) (act : Action) (known : ℕ → ℕ → Option ℤ) (block height after : ℕ) (levels levels_after : List Level) (rows rows_after : List ℤ)
+pub done_two : (instr : Instr) (act : Action) (known : ℕ → Known) (block height after : ℕ) (levels levels_after : List Level) (rows rows_after : List ℤ)
     → TakesTwo instr act → 2 ≤ height → height ≤ length levels → after ≡ height - 1 → after ≤ length levels_after → levels_after ≡ slice_set levels (height - 2) Here
     → ((index : ℕ) → index < (height - 2) * block → slice_index_or rows_after index (pos 0) ≡ slice_index_or rows index (pos 0))
     → ((place : ℕ) → place < block
@@ -161,7 +200,7 @@ done_two instr act known block (suc (suc d)) after levels levels_after rows rows
     }
 
 -- another level in place of one
-pub done_one : (instr : Instr) (act : Action) (known : ℕ → ℕ → Option ℤ) (block height : ℕ) (levels levels_after : List Level) (rows rows_after : List ℤ)
+pub done_one : (instr : Instr) (act : Action) (known : ℕ → Known) (block height : ℕ) (levels levels_after : List Level) (rows rows_after : List ℤ)
     → TakesOne instr act → 1 ≤ height → height ≤ length levels → height ≤ length levels_after → levels_after ≡ slice_set levels (height - 1) Here
     → ((index : ℕ) → index < (height - 1) * block → slice_index_or rows_after index (pos 0) ≡ slice_index_or rows index (pos 0))
     → ((place : ℕ) → place < block

@@ -1,7 +1,9 @@
 pub mod Choices
 pub mod Leading
 pub mod Narrow
+pub mod Proceeding
 pub mod Rows
 pub mod Scaling
 pub mod Stacks
 pub mod Standing
+pub mod Stored

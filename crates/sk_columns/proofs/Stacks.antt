@@ -1,25 +1,25 @@
 -- Stacks of levels.
 use Rattle.std.proofs.Common.{◌≡◌, ◌≢◌, ℕ, zero, suc, ◌+◌, ◌*◌, ◌<◌, List, ◌∷◌, length, ℤ, pos, slice_set, slice_index_or, refl, ap, ◌∙◌, arith}
-use Rattle.std.specs.Prelude.{Option}
 use Rattle.std.proofs.lemmas.List.{get_or-set_same, get_or-set_other}
 use Rattle.sk_columns.specs.Blocks.{stack_of}
 use Rattle.sk_columns.specs.Cells.{cell_of}
 use Rattle.sk_columns.specs.declared.level.Level.{Level}
 use Rattle.sk_columns.specs.declared.level.Level.TheVariants.{Here, Column, Number}
+use Rattle.sk_columns.specs.Known.{Known}
 
 -- one row lies above another
 pub row_above : (row block : ℕ) → suc row * block ≡ row * block + block
 row_above row block = grind arith
 
 -- a cell depends on the one cell of its row
-pub cell-same : (level : Level) (rows after : List ℤ) (index : ℕ) (known : ℕ → Option ℤ)
+pub cell-same : (level : Level) (rows after : List ℤ) (index : ℕ) (known : Known)
     → slice_index_or after index (pos 0) ≡ slice_index_or rows index (pos 0) → cell_of level after index known ≡ cell_of level rows index known
 cell-same Here rows after index known is = is
 cell-same (Column slot) rows after index known is = refl
 cell-same (Number number) rows after index known is = refl
 
 -- a stack depends on its levels and on their rows
-pub same : (levels levels_after : List Level) (rows after : List ℤ) (block place : ℕ) (known : ℕ → Option ℤ) (rest : List ℤ) (height : ℕ) → place < block
+pub same : (levels levels_after : List Level) (rows after : List ℤ) (block place : ℕ) (known : Known) (rest : List ℤ) (height : ℕ) → place < block
     → ((level : ℕ) → level < height → slice_index_or levels_after level Here ≡ slice_index_or levels level Here)
     → ((index : ℕ) → index < height * block → slice_index_or after index (pos 0) ≡ slice_index_or rows index (pos 0))
     → stack_of levels_after after block place known rest height ≡ stack_of levels rows block place known rest height
@@ -36,7 +36,7 @@ same levels levels_after rows after block place known rest (suc fewer) inside le
     ∙ ap (λ (xs : List ℤ). cell_of (slice_index_or levels fewer Here) rows (fewer * block + place) known ∷ xs) others
 
 -- one level on those below it, which are as they were
-pub on_top_by : (levels levels_after : List Level) (rows after : List ℤ) (block place : ℕ) (known : ℕ → Option ℤ) (rest : List ℤ) (height : ℕ) (level : Level) → place < block
+pub on_top_by : (levels levels_after : List Level) (rows after : List ℤ) (block place : ℕ) (known : Known) (rest : List ℤ) (height : ℕ) (level : Level) → place < block
     → slice_index_or levels_after height Here ≡ level
     → ((below : ℕ) → below < height → slice_index_or levels_after below Here ≡ slice_index_or levels below Here)
     → ((index : ℕ) → index < height * block → slice_index_or after index (pos 0) ≡ slice_index_or rows index (pos 0))
@@ -48,7 +48,7 @@ on_top_by levels levels_after rows after block place known rest height level ins
     (same levels levels_after rows after block place known rest height inside others kept)
 
 -- one level on those below it
-pub on_top : (levels levels_after : List Level) (rows after : List ℤ) (block place : ℕ) (known : ℕ → Option ℤ) (rest : List ℤ) (height : ℕ) (level : Level) → place < block
+pub on_top : (levels levels_after : List Level) (rows after : List ℤ) (block place : ℕ) (known : Known) (rest : List ℤ) (height : ℕ) (level : Level) → place < block
     → height < length levels → levels_after ≡ slice_set levels height level
     → ((index : ℕ) → index < height * block → slice_index_or after index (pos 0) ≡ slice_index_or rows index (pos 0))
     → stack_of levels_after after block place known rest (suc height)

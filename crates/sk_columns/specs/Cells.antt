@@ -1,5 +1,5 @@
 -- What an instruction makes of the cells at one place.
-use Rattle.std.specs.Prelude.{◌≢◌, ℕ, Bool, true, false, List, ℤ, pos, Option, Result, Ok, slice_index_or, unwrap_or}
+use Rattle.std.specs.Prelude.{◌≢◌, ℕ, Bool, true, false, List, ℤ, pos, Result, Ok, slice_index_or, unwrap_or}
 use Rattle.sk_base.specs.Arithmetic.{InRange, op_of, wrapped}
 use Rattle.sk_base.specs.declared.number.Op.{Op}
 use Rattle.sk_base.specs.declared.number.Op.TheVariants.{Div, Rem, And, Or, Xor}
@@ -12,11 +12,12 @@ use Rattle.sk_columns.specs.declared.combine.Action.{Action}
 use Rattle.sk_columns.specs.declared.combine.Action.TheVariants as action
 use Rattle.sk_columns.specs.declared.level.Level.{Level}
 use Rattle.sk_columns.specs.declared.level.Level.TheVariants.{Here, Column, Number}
+use Rattle.sk_columns.specs.Known.{Known}
 
 -- the cell of a level at a place, given the level's row, where the place lies in it, and what is known of the slots there
-abbrev pub cell_of : Level → (row : List ℤ) → (index : ℕ) → (known : ℕ → Option ℤ) → ℤ
+abbrev pub cell_of : Level → (row : List ℤ) → (index : ℕ) → (known : Known) → ℤ
 cell_of Here row index known = slice_index_or row index (pos 0)
-cell_of (Column slot) row index known = unwrap_or (known slot) (pos 0)
+cell_of (Column slot) row index known = unwrap_or (known.slots slot) (pos 0)
 cell_of (Number number) row index known = number
 
 -- Operands at which an operator has its value without a trap, and is evaluated in the same way at both types: a divisor

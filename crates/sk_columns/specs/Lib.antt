@@ -1,3 +1,5 @@
 pub mod Blocks
 pub mod Cells
+pub mod Known
+pub mod Locals
 pub mod Scales

@@ -1,8 +1,8 @@
-//! The run of a code for a block of places.
+//! The value of a piece of code for a block of places, with choices between values.
 ghost use Rattle.std.specs.Prelude.{◌≡◌, ℕ, ℤ, Some, IfSome, ◌<◌, ◌≤◌, ◌+◌, ◌*◌, List, ◌∷◌, ◌++◌, length, pos, true, slice_get, slice_index_or};
 ghost use Rattle.std.specs.List.{list_all};
-ghost use Rattle.sk_isa.specs.declared.code.Instr.TheVariants.{Ret, Zero};
-ghost use Rattle.sk_columns.specs.Blocks.{Gives, IsChosen, Reaches, is_straight};
+ghost use Rattle.sk_isa.specs.declared.code.Instr.TheVariants.{Zero};
+ghost use Rattle.sk_columns.specs.Blocks.{IsChosen, Reaches, is_straight};
 ghost use Rattle.sk_columns.specs.Cells.{cell_of};
 ghost use Rattle.sk_columns.specs.declared.level.Level.TheVariants.{Here};
 
@@ -14,87 +14,62 @@ use crate::step::step;
 use sk_base::Cell;
 use sk_isa::Instr;
 
-/// Evaluates a code at as many places one behind another as `out` has cells: puts its value at each of them there. It fails
-/// where the code is neither straight nor chooses between values, where a piece of it traps at some of the places, where a
-/// column is not as long, and where there are fewer levels or rows than it needs: as many as values may stand on its stack,
-/// and two more for each choice. Nothing is then said of `out`.
-///
-/// `out` is the row of the first of the `levels`, and `rows` has one of as many cells for each of the others. What is in
-/// them before is not read.
-pub fn evaluate<L: Lanes>(
-    instrs: &[Instr],
-    lanes: &L,
-    out: &mut [Cell],
-    levels: &mut [Level],
-    rows: &mut [Cell],
-) -> bool
-    requires lends { L.lends lanes.now }
-    ensures { result ≡ true → (place : ℕ) → place < length out.old
-        → Gives instrs.now (L.known lanes.now place) (slice_index_or out.new place (pos 0)) }
-{
-    match end_of(instrs) {
-        Some(end) => arm(instrs, lanes, 0, end, levels, out, rows),
-        None => false,
-    }
+/// A code, and the slots that it is evaluated over.
+#[derive(Drop)]
+pub struct Code<'a, L> {
+    pub instrs: &'a [Instr],
+    pub lanes: &'a L,
 }
 
-/// The address of the last instruction, where that ends a function.
-fn end_of(instrs: &[Instr]) -> Option<usize>
-    ensures { IfSome result (λ end. slice_get instrs.now end ≡ Some Ret) }
-{
-    if instrs.len() == 0 {
-        return None;
-    }
-    let end = instrs.len() - 1;
-    match instr_at(instrs, end) {
-        Instr::Ret => Some(end),
-        _ => None,
-    }
+/// The address of a test, that of the piece of code for the places where it fails, and that behind both pieces.
+#[derive(Clone, Copy)]
+struct Choice {
+    at: usize,
+    other: usize,
+    end: usize,
 }
 
 /// Puts the value that instructions from an address up to another one leave into a row. Above it are rows for the other
 /// values.
 #[cycle(arm)]
-fn arm<L: Lanes>(
-    instrs: &[Instr],
-    lanes: &L,
+pub fn arm<L: Lanes>(
+    code: &Code<L>,
     from: usize,
     to: usize,
     levels: &mut [Level],
     row: &mut [Cell],
     above: &mut [Cell],
 ) -> bool
-    requires lends { L.lends lanes.now }
-    requires within { to ≤ length instrs.now }
+    requires lends { L.lends code.now.lanes.now }
+    requires within { to ≤ length code.now.instrs.now }
     ensures { result ≡ true → (place : ℕ) → place < length row.old → (rest : List ℤ)
-        → Reaches instrs.now (L.known lanes.now place) from rest to (slice_index_or row.new place (pos 0) ∷ rest) }
+        → Reaches code.now.instrs.now (L.known code.now.lanes.now place) from rest to (slice_index_or row.new place (pos 0) ∷ rest) }
 {
-    walk(instrs, lanes, from, to, levels, row, above) && settle(lanes, levels[0], row)
+    walk(code, from, to, levels, row, above) && settle(code.lanes, levels[0], row)
 }
 
 /// Executes the instructions from an address up to another one, which put one value on the stack: the first of these levels,
 /// whose row stands alone. A jump leads to the end alone, as it does behind the first side of a choice, so that nearly no
 /// instruction is executed for both sides.
 #[cycle(arm)]
-fn walk<L: Lanes>(
-    instrs: &[Instr],
-    lanes: &L,
+pub fn walk<L: Lanes>(
+    code: &Code<L>,
     from: usize,
     to: usize,
     levels: &mut [Level],
     first: &mut [Cell],
     above: &mut [Cell],
 ) -> bool
-    requires lends { L.lends lanes.now }
-    requires within { to ≤ length instrs.now }
+    requires lends { L.lends code.now.lanes.now }
+    requires within { to ≤ length code.now.instrs.now }
     ensures inside { result ≡ true → 0 < length levels.old }
     ensures reaches { result ≡ true → (place : ℕ) → place < length first.old → (rest : List ℤ)
-        → Reaches instrs.now (L.known lanes.now place) from rest to (cell_of (slice_index_or levels.new 0 Here) first.new place (L.known lanes.now place) ∷ rest) }
+        → Reaches code.now.instrs.now (L.known code.now.lanes.now place) from rest to (cell_of (slice_index_or levels.new 0 Here) first.new place (L.known code.now.lanes.now place) ∷ rest) }
 {
     let mut at = from;
     let mut height = 0;
     while at < to {
-        match instr_at(instrs, at) {
+        match instr_at(code.instrs, at) {
             Instr::Jump(target) => {
                 let target = *target as usize;
                 if target != to {
@@ -104,12 +79,12 @@ fn walk<L: Lanes>(
             }
             Instr::Zero(other) => {
                 let other = *other as usize;
-                match choose(instrs, lanes, at, other, to, height, levels, first, above) {
+                match choose(code, at, other, to, height, levels, first, above) {
                     Some(end) => at = end,
                     None => return false,
                 }
             }
-            instr => match step(instr, lanes, height, levels, first, above) {
+            instr => match step(instr, code.lanes, height, levels, first, above) {
                 Some(after) => {
                     height = after;
                     at += 1;
@@ -125,8 +100,7 @@ fn walk<L: Lanes>(
 /// address behind them.
 #[cycle(arm)]
 fn choose<L: Lanes>(
-    instrs: &[Instr],
-    lanes: &L,
+    code: &Code<L>,
     at: usize,
     other: usize,
     to: usize,
@@ -135,25 +109,22 @@ fn choose<L: Lanes>(
     first: &mut [Cell],
     above: &mut [Cell],
 ) -> Option<usize>
-    requires lends { L.lends lanes.now }
-    requires within { to ≤ length instrs.now }
-    requires found { slice_get instrs.now at ≡ Some (Zero other) }
+    requires lends { L.lends code.now.lanes.now }
+    requires within { to ≤ length code.now.instrs.now }
+    requires found { slice_get code.now.instrs.now at ≡ Some (Zero other) }
     requires inside { height ≤ length levels.old }
     ensures ahead { IfSome result (λ end. (at < end) × (end ≤ to)) }
-    ensures chosen { IfSome result (λ end. IsChosen instrs.now (L.known lanes.now) (length first.old) at height levels.old (first.old ++ above.old) end levels.new (first.new ++ above.new)) }
+    ensures chosen { IfSome result (λ end. IsChosen code.now.instrs.now (L.known code.now.lanes.now) (length first.old) at height levels.old (first.old ++ above.old) end levels.new (first.new ++ above.new)) }
 {
-    let end = behind_choice(instrs, at, other, to)?;
+    let end = behind_choice(code.instrs, at, other, to)?;
     if height == 0 {
         return None;
     }
     let level = levels[height - 1];
     let (_, fresh) = levels.split_at_mut(height);
     if !choose_at(
-        instrs,
-        lanes,
-        at,
-        other,
-        end,
+        code,
+        Choice { at, other, end },
         level,
         height - 1,
         fresh,
@@ -191,68 +162,51 @@ fn behind_choice(instrs: &[Instr], at: usize, other: usize, to: usize) -> Option
 /// Puts the chosen value into the row of this number, which the test has.
 #[cycle(arm)]
 fn choose_at<L: Lanes>(
-    instrs: &[Instr],
-    lanes: &L,
-    at: usize,
-    other: usize,
-    end: usize,
+    code: &Code<L>,
+    choice: Choice,
     test: Level,
     row: usize,
     levels: &mut [Level],
     first: &mut [Cell],
     above: &mut [Cell],
 ) -> bool
-    requires lends { L.lends lanes.now }
-    requires found { slice_get instrs.now at ≡ Some (Zero other) }
-    requires ahead { at < other }
-    requires behind { other ≤ end }
-    requires within { end ≤ length instrs.now }
+    requires lends { L.lends code.now.lanes.now }
+    requires found { slice_get code.now.instrs.now choice.at ≡ Some (Zero choice.other) }
+    requires ahead { choice.at < choice.other }
+    requires behind { choice.other ≤ choice.end }
+    requires within { choice.end ≤ length code.now.instrs.now }
     ensures below { result ≡ true → (index : ℕ) → index < row * length first.old → slice_index_or (first.new ++ above.new) index (pos 0) ≡ slice_index_or (first.old ++ above.old) index (pos 0) }
     ensures here { result ≡ true → (place : ℕ) → place < length first.old → (rest : List ℤ)
-        → Reaches instrs.now (L.known lanes.now place) at (cell_of test (first.old ++ above.old) (row * length first.old + place) (L.known lanes.now place) ∷ rest)
-        end (slice_index_or (first.new ++ above.new) (row * length first.old + place) (pos 0) ∷ rest) }
+        → Reaches code.now.instrs.now (L.known code.now.lanes.now place) choice.at (cell_of test (first.old ++ above.old) (row * length first.old + place) (L.known code.now.lanes.now place) ∷ rest)
+        choice.end (slice_index_or (first.new ++ above.new) (row * length first.old + place) (pos 0) ∷ rest) }
 {
     if row == 0 {
-        choose_in(instrs, lanes, at, other, end, test, levels, first, above)
+        choose_in(code, choice, test, levels, first, above)
     } else {
-        choose_above(
-            instrs,
-            lanes,
-            at,
-            other,
-            end,
-            test,
-            first.len(),
-            row - 1,
-            levels,
-            above,
-        )
+        choose_above(code, choice, test, first.len(), row - 1, levels, above)
     }
 }
 
 /// The same in rows above the first one, where they are counted from 0.
 #[cycle(arm)]
 fn choose_above<L: Lanes>(
-    instrs: &[Instr],
-    lanes: &L,
-    at: usize,
-    other: usize,
-    end: usize,
+    code: &Code<L>,
+    choice: Choice,
     test: Level,
     block: usize,
     row: usize,
     levels: &mut [Level],
     rows: &mut [Cell],
 ) -> bool
-    requires lends { L.lends lanes.now }
-    requires found { slice_get instrs.now at ≡ Some (Zero other) }
-    requires ahead { at < other }
-    requires behind { other ≤ end }
-    requires within { end ≤ length instrs.now }
+    requires lends { L.lends code.now.lanes.now }
+    requires found { slice_get code.now.instrs.now choice.at ≡ Some (Zero choice.other) }
+    requires ahead { choice.at < choice.other }
+    requires behind { choice.other ≤ choice.end }
+    requires within { choice.end ≤ length code.now.instrs.now }
     ensures below { result ≡ true → (index : ℕ) → index < row * block → slice_index_or rows.new index (pos 0) ≡ slice_index_or rows.old index (pos 0) }
     ensures here { result ≡ true → (place : ℕ) → place < block → (rest : List ℤ)
-        → Reaches instrs.now (L.known lanes.now place) at (cell_of test rows.old (row * block + place) (L.known lanes.now place) ∷ rest)
-        end (slice_index_or rows.new (row * block + place) (pos 0) ∷ rest) }
+        → Reaches code.now.instrs.now (L.known code.now.lanes.now place) choice.at (cell_of test rows.old (row * block + place) (L.known code.now.lanes.now place) ∷ rest)
+        choice.end (slice_index_or rows.new (row * block + place) (pos 0) ∷ rest) }
 {
     let Some(base) = row.checked_mul(block) else {
         return false;
@@ -262,41 +216,38 @@ fn choose_above<L: Lanes>(
     }
     let (_, from) = rows.split_at_mut(base);
     let (to, above) = from.split_at_mut(block);
-    choose_in(instrs, lanes, at, other, end, test, levels, to, above)
+    choose_in(code, choice, test, levels, to, above)
 }
 
 /// Puts the chosen value into a row. The two next rows above it are for the values to choose from.
 #[cycle(arm)]
 fn choose_in<L: Lanes>(
-    instrs: &[Instr],
-    lanes: &L,
-    at: usize,
-    other: usize,
-    end: usize,
+    code: &Code<L>,
+    choice: Choice,
     test: Level,
     levels: &mut [Level],
     to: &mut [Cell],
     above: &mut [Cell],
 ) -> bool
-    requires lends { L.lends lanes.now }
-    requires found { slice_get instrs.now at ≡ Some (Zero other) }
-    requires ahead { at < other }
-    requires behind { other ≤ end }
-    requires within { end ≤ length instrs.now }
+    requires lends { L.lends code.now.lanes.now }
+    requires found { slice_get code.now.instrs.now choice.at ≡ Some (Zero choice.other) }
+    requires ahead { choice.at < choice.other }
+    requires behind { choice.other ≤ choice.end }
+    requires within { choice.end ≤ length code.now.instrs.now }
     ensures { result ≡ true → (place : ℕ) → place < length to.old → (rest : List ℤ)
-        → Reaches instrs.now (L.known lanes.now place) at (cell_of test to.old place (L.known lanes.now place) ∷ rest)
-        end (slice_index_or to.new place (pos 0) ∷ rest) }
+        → Reaches code.now.instrs.now (L.known code.now.lanes.now place) choice.at (cell_of test to.old place (L.known code.now.lanes.now place) ∷ rest)
+        choice.end (slice_index_or to.new place (pos 0) ∷ rest) }
 {
     let block = to.len();
     if above.len() < block || above.len() - block < block {
         return false;
     }
     let (one, higher) = above.split_at_mut(block);
-    if !arm(instrs, lanes, at + 1, end, levels, one, higher) {
+    if !arm(code, choice.at + 1, choice.end, levels, one, higher) {
         return false;
     }
     let (two, highest) = higher.split_at_mut(block);
-    if !arm(instrs, lanes, other, end, levels, two, highest) || !settle(lanes, test, to) {
+    if !arm(code, choice.other, choice.end, levels, two, highest) || !settle(code.lanes, test, to) {
         return false;
     }
     select(to, one, two);
@@ -318,6 +269,8 @@ fn is_straight_instr(instr: &Instr) -> bool
         instr,
         Instr::Push(_)
             | Instr::Load(_)
+            | Instr::Store(_)
+            | Instr::Field(_, _)
             | Instr::Neg(_)
             | Instr::Inv(_)
             | Instr::Not
@@ -331,7 +284,7 @@ fn is_straight_instr(instr: &Instr) -> bool
 
 /// The instruction at an address.
 #[inline]
-fn instr_at(instrs: &[Instr], at: usize) -> &Instr
+pub fn instr_at(instrs: &[Instr], at: usize) -> &Instr
     requires { at < length instrs.now }
     ensures { slice_get instrs.now at ≡ Some result.now }
 {

@@ -1,5 +1,5 @@
 //! An operator on all cells of a row. The value goes into the row of the left operand.
-ghost use Rattle.std.specs.Prelude.{◌≡◌, ◌≢◌, if◌then◌else◌, ℕ, ◌<◌, length, pos, Ok, true, false, slice_index_or};
+ghost use Rattle.std.specs.Prelude.{◌≡◌, ◌≢◌, if◌then◌else◌, ℕ, ◌<◌, ◌+◌, length, pos, Ok, true, false, slice_index_or};
 ghost use Rattle.sk_base.specs.Arithmetic.{InRange};
 ghost use Rattle.sk_meaning.specs.Expressions.{holds};
 
@@ -82,6 +82,19 @@ pub fn fill(to: &mut [Cell], number: Cell)
     for k in 0..to.len() {
         to[k] = number;
     }
+}
+
+/// Consecutive numbers in the cells. It fails where one of them is too large.
+pub fn count(from: u32, to: &mut [Cell]) -> bool
+    ensures { result ≡ true → (place : ℕ) → place < length to.old → slice_index_or to.new place (pos 0) ≡ pos (from + place) }
+{
+    if to.len() > (u32::MAX - from) as usize {
+        return false;
+    }
+    for k in 0..to.len() {
+        to[k] = Cell::from(from + k as u32);
+    }
+    true
 }
 
 /// Whether some cell is 0.

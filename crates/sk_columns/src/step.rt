@@ -7,8 +7,10 @@ ghost use Rattle.sk_columns.specs.Cells.{cell_of, made_by};
 use crate::combine::{Action, combine};
 use crate::lanes::Lanes;
 use crate::level::Level;
+use crate::loops::count;
 use sk_base::Cell;
 use sk_isa::Instr;
+use sk_names::Name;
 
 /// Executes an instruction for a block of places, with so many values on the stack, and gives how many there are then. It
 /// gives nothing where it cannot be done. The row of the first level stands alone, and those of the others above it.
@@ -27,6 +29,7 @@ pub fn step<L: Lanes>(
     match instr {
         Instr::Push(number) => push(Level::Number(*number), height, levels),
         Instr::Load(slot) => load(lanes, *slot, first.len(), height, levels),
+        Instr::Field(slot, name) => field(lanes, *slot, name, height, levels, first, above),
         Instr::Binary(op, ty) => {
             binary(
                 Action::Binary(*op, *ty),
@@ -74,6 +77,55 @@ fn load<L: Lanes>(
         return None;
     }
     push(Level::Column(slot), height, levels)
+}
+
+/// One more level: a field of an argument, where it is known to have consecutive numbers.
+fn field<L: Lanes>(
+    lanes: &L,
+    slot: u32,
+    name: &Name,
+    height: usize,
+    levels: &mut [Level],
+    first: &mut [Cell],
+    above: &mut [Cell],
+) -> Option<usize>
+    requires lends { L.lends lanes.now }
+    ensures { IfSome result (λ after. IsDone (Instr.Field slot name.now) (L.known lanes.now) (length first.old) height levels.old (first.old ++ above.old) after levels.new (first.new ++ above.new)) }
+{
+    let from = lanes.first(slot, name)?;
+    if height >= levels.len() || !count_at(from, height, first, above) {
+        return None;
+    }
+    levels[height] = Level::Here;
+    Some(height + 1)
+}
+
+/// Puts consecutive numbers into the row of this number.
+fn count_at(from: u32, row: usize, first: &mut [Cell], above: &mut [Cell]) -> bool
+    ensures below { result ≡ true → (index : ℕ) → index < row * length first.old → slice_index_or (first.new ++ above.new) index (pos 0) ≡ slice_index_or (first.old ++ above.old) index (pos 0) }
+    ensures here { result ≡ true → (place : ℕ) → place < length first.old → slice_index_or (first.new ++ above.new) (row * length first.old + place) (pos 0) ≡ pos (from + place) }
+{
+    if row == 0 {
+        count(from, first)
+    } else {
+        count_above(from, first.len(), row - 1, above)
+    }
+}
+
+/// The same in rows above the first one, where they are counted from 0.
+fn count_above(from: u32, block: usize, row: usize, rows: &mut [Cell]) -> bool
+    ensures below { result ≡ true → (index : ℕ) → index < row * block → slice_index_or rows.new index (pos 0) ≡ slice_index_or rows.old index (pos 0) }
+    ensures here { result ≡ true → (place : ℕ) → place < block → slice_index_or rows.new (row * block + place) (pos 0) ≡ pos (from + place) }
+{
+    let Some(base) = row.checked_mul(block) else {
+        return false;
+    };
+    if rows.len() < base || rows.len() - base < block {
+        return false;
+    }
+    let (_, rest) = rows.split_at_mut(base);
+    let (to, _) = rest.split_at_mut(block);
+    count(from, to)
 }
 
 /// One level in place of the two topmost ones.

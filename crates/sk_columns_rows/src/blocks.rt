@@ -1,35 +1,48 @@
 //! Codes evaluated over two columns.
-ghost use Rattle.std.specs.Prelude.{◌≡◌, ◌==◌, if◌then◌else◌, slice_get};
+ghost use Rattle.std.specs.Prelude.{◌≡◌, ◌==◌, ◌+◌, nat_lt, if◌then◌else◌, Some, None, pos, slice_get};
 
 use sk_base::{Cell, Op, Ty, binary};
 use sk_columns::{Lanes, Level, evaluate};
 use sk_isa::Instr;
+use sk_names::Name;
 use std::alloc::{AllocError, Global};
 use std::process::Abort;
 
-/// Two slots with a column each.
+/// Two slots with a column each, and 0 in all others. Every field of the argument in slot 9 counts from a number on.
 #[derive(Drop)]
 struct Columns<'a> {
     left: &'a [Cell],
     right: &'a [Cell],
+    from: u32,
 }
 
 impl<'a> Lanes for Columns<'a> {
-    ghost known = { λ columns place slot. slice_get (if slot == 0 then columns.left.now else columns.right.now) place };
+    ghost known = { λ columns place. record {
+      slots = λ slot. if nat_lt slot 2 then slice_get (if slot == 0 then columns.left.now else columns.right.now) place else Some (pos 0);
+      fields = λ slot name. if slot == 9 then Some (pos (columns.from + place)) else None;
+    } };
 
     ghost lends = { λ columns. Unit {0} };
 
-    fn number(&self, _slot: u32) -> Option<Cell> {
-        None
+    fn number(&self, slot: u32) -> Option<Cell> {
+        if slot < 2 { None } else { Some(0) }
     }
 
     fn column(&self, slot: u32) -> &[Cell] {
-        if slot == 0 { self.left } else { self.right }
+        match slot {
+            0 => self.left,
+            1 => self.right,
+            _ => &[],
+        }
+    }
+
+    fn first(&self, slot: u32, _name: &Name) -> Option<u32> {
+        if slot == 9 { Some(self.from) } else { None }
     }
 }
 
-/// As many levels as the codes of these rows need at most, with choices.
-const LEVELS: usize = 7;
+/// As many levels as the codes of these rows need at most, with choices and locals.
+const LEVELS: usize = 9;
 
 /// What a code gives for a block of two columns, where it is evaluated.
 pub fn evaluated(
@@ -38,6 +51,17 @@ pub fn evaluated(
     left: &[Cell],
     right: &[Cell],
 ) -> Result<Option<Vec<Cell>>, AllocError> {
+    evaluated_from(alloc, code, left, right, 0)
+}
+
+/// The same, where fields count from a number on.
+pub fn evaluated_from(
+    alloc: Global,
+    code: &[Instr],
+    left: &[Cell],
+    right: &[Cell],
+    from: u32,
+) -> Result<Option<Vec<Cell>>, AllocError> {
     let block = left.len();
     let mut out = vec![in alloc; 0; block]?;
     let mut levels = vec![in alloc; Level::Here; LEVELS]?;
@@ -45,7 +69,7 @@ pub fn evaluated(
         return Ok(None);
     };
     let mut rows = vec![in alloc; 0; cells]?;
-    let columns = Columns { left, right };
+    let columns = Columns { left, right, from };
     if evaluate(code, &columns, &mut out, &mut levels, &mut rows) {
         Ok(Some(out))
     } else {
@@ -141,6 +165,22 @@ pub fn expect_cells(
     Ok(())
 }
 
+/// A code gives these cells where fields count from a number on, or is not evaluated.
+pub fn expect_counted(
+    rt: &impl Abort,
+    alloc: Global,
+    code: &[Instr],
+    from: u32,
+    left: &[Cell],
+    wanted: Option<&[Cell]>,
+) -> Result<(), AllocError> {
+    match (evaluated_from(alloc, code, left, left, from)?, wanted) {
+        (Some(cells), Some(wanted)) => assert_eq!(rt; cells.as_slice(), wanted),
+        (found, wanted) => assert!(rt; found.is_none() && wanted.is_none()),
+    }
+    Ok(())
+}
+
 /// The numbers of so many places.
 fn numbers(alloc: Global, length: u32) -> Result<Vec<Cell>, AllocError> {
     let mut numbers = Vec::new(alloc);
@@ -150,7 +190,7 @@ fn numbers(alloc: Global, length: u32) -> Result<Vec<Cell>, AllocError> {
     Ok(numbers)
 }
 
-/// `(a + b) / 2` of a number with itself is the number.
+/// `(a + b) / 2` of a number with itself is the number, also where the sum is stored.
 pub fn expect_length(rt: &impl Abort, alloc: Global, length: u32) -> Result<(), AllocError> {
     let code = [
         Instr::Load(0),
@@ -160,12 +200,19 @@ pub fn expect_length(rt: &impl Abort, alloc: Global, length: u32) -> Result<(), 
         Instr::Binary(Op::Div, Ty::Int),
         Instr::Ret,
     ];
+    let stored = [
+        Instr::Load(0),
+        Instr::Load(1),
+        Instr::Binary(Op::Add, Ty::Int),
+        Instr::Store(2),
+        Instr::Load(2),
+        Instr::Push(2),
+        Instr::Binary(Op::Div, Ty::Int),
+        Instr::Ret,
+    ];
     let numbers = numbers(alloc, length)?;
-    let found = evaluated(alloc, &code, &numbers, &numbers)?;
-    match found {
-        Some(cells) => assert_eq!(rt; cells.as_slice(), numbers.as_slice(), "length {length}"),
-        None => assert!(rt; false, "length {length}"),
-    }
+    expect_cells(rt, alloc, &code, &numbers, &numbers, Some(&numbers))?;
+    expect_cells(rt, alloc, &stored, &numbers, &numbers, Some(&numbers))?;
     Ok(())
 }
 

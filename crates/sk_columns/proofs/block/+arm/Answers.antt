@@ -15,7 +15,7 @@ choose-returns-clause-chosen g t c = record {
       let upper : c.args.height ≡ suc (c.args.height - 1) = omega (arith, none) in
       let front = c.split_at_mut-fresh.result.0.now in
       let long : length front ≡ c.args.height = c.split_at_mut-fresh.ensures.front_len in
-      chosen_on c.args.instrs.now (g.L.Lanes.known c.args.lanes.now place) c.args.at c.in_ok-end.end (length c.args.first.now) place
+      chosen_on c.args.code.now.instrs.now (g.L.Lanes.known c.args.code.now.lanes.now place) c.args.at c.in_ok-end.end (length c.args.first.now) place
       c.args.levels.now (slice_set (front ++ c.choose_at.new.levels) (c.args.height - 1) Here)
       (c.args.first.now ++ c.args.above.now) (c.choose_at.new.first ++ c.choose_at.new.above) rest c.args.height (c.args.height - 1) inside upper
       (level_here front c.choose_at.new.levels c.args.height (c.args.height - 1) long upper)
@@ -30,14 +30,14 @@ choose_above-returns-clause-here g t c = λ done place inside rest.
     let long : length c.split_at_mut-to.result.0.now ≡ c.args.block = c.split_at_mut-to.ensures.front_len in
     let here : length c.split_at_mut-from.result.0.now + place ≡ c.args.row * c.args.block + place = ap (λ (n : ℕ). n + place) (base ∙ size) in
     let within : place < length c.split_at_mut-to.result.0.now = omega (arith, long, inside) in
-    turned_among c.args.instrs.now (g.L.Lanes.known c.args.lanes.now place) c.args.at c.args.end rest c.args.test c.args.rows.now
+    turned_among c.args.code.now.instrs.now (g.L.Lanes.known c.args.code.now.lanes.now place) c.args.choice.at c.args.choice.end rest c.args.test c.args.rows.now
     c.split_at_mut-from.result.0.now c.split_at_mut-from.result.1.now c.split_at_mut-to.result.0.now c.split_at_mut-to.result.1.now c.choose_in.new.to c.choose_in.new.above
     (c.args.row * c.args.block + place) place c.split_at_mut-from.ensures.value c.split_at_mut-to.ensures.value here c.choose_in.auto.to within
     (c.choose_in.ensures done place within rest)
 
 pub choose_at-returns-then-row-eq0-clause-here : goal.choose_at-returns-then-row-eq0-clause-here
 choose_at-returns-then-row-eq0-clause-here g t c = λ done place inside rest.
-    turned_first c.args.instrs.now (g.L.Lanes.known c.args.lanes.now place) c.args.at c.args.end rest c.args.test c.args.first.now c.args.above.now
+    turned_first c.args.code.now.instrs.now (g.L.Lanes.known c.args.code.now.lanes.now place) c.args.choice.at c.args.choice.end rest c.args.test c.args.first.now c.args.above.now
     c.choose_in.new.to c.choose_in.new.above c.args.row place c.if-row-eq0.true inside c.choose_in.auto.to (c.choose_in.ensures done place inside rest)
 
 pub choose_at-returns-else-row-eq0-clause-below : goal.choose_at-returns-else-row-eq0-clause-below
@@ -50,12 +50,12 @@ pub choose_at-returns-else-row-eq0-clause-here : goal.choose_at-returns-else-row
 choose_at-returns-else-row-eq0-clause-here g t c = λ done place inside rest.
     let none = c.if-row-eq0.false in
     let upper : c.args.row ≡ suc (c.args.row - 1) = omega (arith, none) in
-    turned_above c.args.instrs.now (g.L.Lanes.known c.args.lanes.now place) c.args.at c.args.end rest c.args.test c.args.first.now c.args.above.now
+    turned_above c.args.code.now.instrs.now (g.L.Lanes.known c.args.code.now.lanes.now place) c.args.choice.at c.args.choice.end rest c.args.test c.args.first.now c.args.above.now
     c.choose_above.new.rows c.args.row (c.args.row - 1) place upper (c.choose_above.ensures.here done place inside rest)
 
 pub choose_in-returns : goal.choose_in-returns
 choose_in-returns g t c = λ done place inside rest.
-    let known = g.L.Lanes.known c.args.lanes.now place in
+    let known = g.L.Lanes.known c.args.code.now.lanes.now place in
     let one_long : length c.split_at_mut-one.result.0.now ≡ length c.args.to.now = c.split_at_mut-one.ensures.front_len in
     let two_long : length c.split_at_mut-two.result.0.now ≡ length c.args.to.now = c.split_at_mut-two.ensures.front_len in
     let row_long : length c.settle.new.row ≡ length c.args.to.now = c.settle.auto.row in
@@ -66,17 +66,17 @@ choose_in-returns g t c = λ done place inside rest.
     let y = slice_index_or c.arm-2.new.row place (pos 0) in
     let value : (if holds (slice_index_or c.settle.new.row place (pos 0)) then x else y) ≡ slice_index_or c.select.new.to place (pos 0) =
     sym (c.select.ensures place (omega (arith, row_long, inside))) in
-    subst (λ (z : ℤ). Reaches c.args.instrs.now known c.args.at (z ∷ rest) c.args.end (slice_index_or c.select.new.to place (pos 0) ∷ rest)) (sym test)
-    (subst (λ (z : ℤ). Reaches c.args.instrs.now known c.args.at (slice_index_or c.settle.new.row place (pos 0) ∷ rest) c.args.end (z ∷ rest)) value
-    (chosen c.args.instrs.now known c.args.at c.args.other c.args.end (slice_index_or c.settle.new.row place (pos 0)) x y rest c.requires.found one two))
+    subst (λ (z : ℤ). Reaches c.args.code.now.instrs.now known c.args.choice.at (z ∷ rest) c.args.choice.end (slice_index_or c.select.new.to place (pos 0) ∷ rest)) (sym test)
+    (subst (λ (z : ℤ). Reaches c.args.code.now.instrs.now known c.args.choice.at (slice_index_or c.settle.new.row place (pos 0) ∷ rest) c.args.choice.end (z ∷ rest)) value
+    (chosen c.args.code.now.instrs.now known c.args.choice.at c.args.choice.other c.args.choice.end (slice_index_or c.settle.new.row place (pos 0)) x y rest c.requires.found one two))
 
 pub walk-loop-at-preserved-in-Jump : goal.walk-loop-at-preserved-in-Jump
 walk-loop-at-preserved-in-Jump g t c = (
   omega (arith, c.loop-at.invariant.0, c.loop-at-test.true, c.if-target-to.false),
   c.loop-at.invariant.1,
   λ place inside rest.
-      let known = g.L.Lanes.known c.args.lanes.now place in
-      jumped c.args.instrs.now known c.args.from c.loop-at.at c.in-Jump.target rest
+      let known = g.L.Lanes.known c.args.code.now.lanes.now place in
+      jumped c.args.code.now.instrs.now known c.args.from c.loop-at.at c.in-Jump.target rest
       (stack_of c.loop-at.levels (c.loop-at.first ++ c.loop-at.above) (length c.loop-at.first) place known rest c.loop-at.height)
       (c.instr_at.ensures ∙ ap Some c.in-Jump.is) (c.loop-at.invariant.2 place inside rest),
 )
@@ -88,13 +88,13 @@ walk-loop-at-preserved-in-Some g t c =
       omega (arith, c.loop-at.invariant.0, ahead),
       omega (arith, c.loop-at.invariant.1, c.choose.auto.levels),
       λ place inside rest.
-          let known = g.L.Lanes.known c.args.lanes.now place in
+          let known = g.L.Lanes.known c.args.code.now.lanes.now place in
           let before : place < length c.loop-at.first = omega (arith, long, inside) in
           let middle = stack_of c.loop-at.levels (c.loop-at.first ++ c.loop-at.above) (length c.loop-at.first) place known rest c.loop-at.height in
           let after = stack_of c.choose.new.levels (c.choose.new.first ++ c.choose.new.above) (length c.loop-at.first) place known rest c.loop-at.height in
-          subst (λ (n : ℕ). Reaches c.args.instrs.now known c.args.from rest c.in-Some.end (stack_of c.choose.new.levels (c.choose.new.first ++ c.choose.new.above) n place known rest c.loop-at.height))
+          subst (λ (n : ℕ). Reaches c.args.code.now.instrs.now known c.args.from rest c.in-Some.end (stack_of c.choose.new.levels (c.choose.new.first ++ c.choose.new.above) n place known rest c.loop-at.height))
           (sym long)
-          (joined c.args.instrs.now known c.args.from c.loop-at.at c.in-Some.end rest middle after (c.loop-at.invariant.2 place before rest)
+          (joined c.args.code.now.instrs.now known c.args.from c.loop-at.at c.in-Some.end rest middle after (c.loop-at.invariant.2 place before rest)
           (c.in-Some.ensures.chosen.reaches place before rest)),
     )
 
@@ -105,12 +105,12 @@ walk-loop-at-preserved g t c = (
   λ place inside rest.
       let long : length c.step.new.first ≡ length c.loop-at.first = c.step.auto.first in
       let before : place < length c.loop-at.first = omega (arith, long, inside) in
-      let known = g.L.Lanes.known c.args.lanes.now place in
+      let known = g.L.Lanes.known c.args.code.now.lanes.now place in
       let middle = stack_of c.loop-at.levels (c.loop-at.first ++ c.loop-at.above) (length c.loop-at.first) place known rest c.loop-at.height in
       let after = stack_of c.step.new.levels (c.step.new.first ++ c.step.new.above) (length c.loop-at.first) place known rest c.in-Some-step.after in
-      subst (λ (n : ℕ). Reaches c.args.instrs.now known c.args.from rest (c.loop-at.at + 1) (stack_of c.step.new.levels (c.step.new.first ++ c.step.new.above) n place known rest c.in-Some-step.after))
+      subst (λ (n : ℕ). Reaches c.args.code.now.instrs.now known c.args.from rest (c.loop-at.at + 1) (stack_of c.step.new.levels (c.step.new.first ++ c.step.new.above) n place known rest c.in-Some-step.after))
       (sym long)
-      (led c.args.instrs.now known c.args.from c.loop-at.at rest middle after c.instr_at.result.now c.instr_at.ensures
+      (led c.args.code.now.instrs.now known c.args.from c.loop-at.at rest middle after c.instr_at.result.now c.instr_at.ensures
       (c.loop-at.invariant.2 place before rest) (c.in-Some-step.ensures.leads place before rest)),
 )
 
@@ -118,9 +118,9 @@ pub walk-returns-then-at-to-clause-reaches : goal.walk-returns-then-at-to-clause
 walk-returns-then-at-to-clause-reaches g t c = λ single place inside rest.
     let long : length c.loop-at.first ≡ length c.args.first.now = c.loop-at.auto.first in
     let here : place < length c.loop-at.first = omega (arith, long, inside) in
-    let known = g.L.Lanes.known c.args.lanes.now place in
+    let known = g.L.Lanes.known c.args.code.now.lanes.now place in
     let one : c.loop-at.height ≡ 1 = search rules in
     let level = one_level c.loop-at.levels c.loop-at.first c.loop-at.above (length c.loop-at.first) place known rest c.loop-at.height one here in
-    subst (λ (xs : List ℤ). Reaches c.args.instrs.now known c.args.from rest c.args.to xs) level
-    (subst (λ (n : ℕ). Reaches c.args.instrs.now known c.args.from rest n (stack_of c.loop-at.levels (c.loop-at.first ++ c.loop-at.above) (length c.loop-at.first) place known rest c.loop-at.height))
+    subst (λ (xs : List ℤ). Reaches c.args.code.now.instrs.now known c.args.from rest c.args.to xs) level
+    (subst (λ (n : ℕ). Reaches c.args.code.now.instrs.now known c.args.from rest n (stack_of c.loop-at.levels (c.loop-at.first ++ c.loop-at.above) (length c.loop-at.first) place known rest c.loop-at.height))
     c.if-at-to.true (c.loop-at.invariant.2 place here rest))

@@ -6,7 +6,7 @@ use Rattle.std.proofs.lemmas.List.{get_or-drop, length-drop, length-take-le, rev
 use Rattle.std.proofs.Math.ListN.{get_or-append}
 use Rattle.std.proofs.Math.Seq.{drop-append_seam, get_or-append_seam, take-append_seam, take-suc}
 use Rattle.sk_base.specs.declared.number.Ty.{Ty}
-use Rattle.sk_meaning.specs.Evaluation.{Value}
+use Rattle.sk_meaning.specs.Evaluation.{Argument, Value, number_in}
 use Rattle.sk_tree.specs.declared.tree.ParamKind.{ParamKind}
 use Rattle.sk_isa.specs.declared.code.Instr.TheVariants.{Call}
 use Rattle.sk_isa.specs.declared.object.Object.{Object}
@@ -20,8 +20,10 @@ use Rattle.sk_isa.specs.SoundObjects.{HasSoundFunctions}
 use Rattle.sk_isa_laws.proofs.Callees.{functions_have_values, function_of-code, there}
 use Rattle.sk_isa_laws.proofs.TypedLists.{typed-length, typed-reverse, typed-take, typed_arguments}
 use Rattle.sk_vm.specs.declared.stack.Stand.{Stand}
-use Rattle.sk_vm.specs.Rooms.{Begins, given_to, slots_at}
+use Rattle.sk_vm.specs.Places.{arguments_with}
+use Rattle.sk_vm.specs.Rooms.{Begins, begun_with, given_to, slots_at}
 use Rattle.sk_vm.specs.Points.{values_in, point_at}
+use Rattle.sk_vm.proofs.Places.{numbers_back, values_alone}
 use Rattle.sk_vm.proofs.Starts.{signature_at-is, slots_at-is}
 
 -- a call finds its function and its arguments, and leaves one value in their place
@@ -183,36 +185,40 @@ params_fit object sound function within =
     let size = is_sound.count in
     omega arith
 
--- slots into which arguments were put
-pub begins-entered : (object : Object) (function : ℕ) (given slots : List ℤ) (size : ℕ) → slots ≡ given ++ replicate (size - length given) (pos 0)
+-- slots into which arguments were put that are numbers
+pub begins-entered : (object : Object) (function : ℕ) (place : List ℕ) (given slots : List ℤ) (size : ℕ) → slots ≡ given ++ replicate (size - length given) (pos 0)
     → size ≡ slots_at object.functions function → length slots ≡ size → length given ≡ length (signature_at object function).params
     → SuitParams (signature_at object function).params (map Value given)
-    → Begins object function slots × (given_to object function slots ≡ given)
-begins-entered object function given slots size is size_is count params suited =
-    let front : take (length (signature_at object function).params) slots ≡ given =
+    → Begins object function place slots × (begun_with object function place slots ≡ map Value given)
+begins-entered object function place given slots size is size_is count params suited =
+    let front : given_to object function slots ≡ given =
     ap (λ (xs : List ℤ). take (length (signature_at object function).params) xs) is
     ∙ ap (λ (n : ℕ). take n (given ++ replicate (size - length given) (pos 0))) (sym params)
-    ∙ take-append_seam given (replicate (size - length given) (pos 0)) in (
+    ∙ take-append_seam given (replicate (size - length given) (pos 0)) in
+    let arguments : begun_with object function place slots ≡ map Value given =
+    ap (λ (xs : List ℤ). arguments_with (signature_at object function).params place xs) front
+    ∙ values_alone (signature_at object function).params place given suited in (
       record {
         count = count ∙ size_is;
-        suited = subst (λ (xs : List ℤ). SuitParams (signature_at object function).params (map Value xs)) (sym front) suited;
+        suited = subst (λ (xs : List Argument). SuitParams (signature_at object function).params xs) (sym arguments) suited;
+        numbers = ap (λ (xs : List Argument). map number_in xs) arguments ∙ numbers_back given ∙ sym front;
         others = ap (λ (xs : List ℤ). drop (length (signature_at object function).params) xs) is
             ∙ ap (λ (n : ℕ). drop n (given ++ replicate (size - length given) (pos 0))) (sym params)
             ∙ drop-append_seam given (replicate (size - length given) (pos 0))
             ∙ ap (λ (n : ℕ). replicate (n - length given) (pos 0)) (sym count)
             ∙ ap (λ (n : ℕ). replicate (length slots - n) (pos 0)) params;
       },
-      front,
+      arguments,
     )
 
 -- slots into which the arguments of a call were put
-pub call_begins : (object : Object) → HasSoundFunctions object → (callee : ℕ) → callee < length object.functions → (stack free slots : List ℤ) (top takes size : ℕ)
+pub call_begins : (object : Object) → HasSoundFunctions object → (callee : ℕ) → callee < length object.functions → (place : List ℕ) (stack free slots : List ℤ) (top takes size : ℕ)
     → takes ≡ length (signature_at object callee).params → takes ≤ top → top ≤ length stack → free ≡ drop (top - takes) stack
     → size ≡ slots_at object.functions callee → length slots ≡ size
     → slots ≡ take takes free ++ replicate (size - length (take takes free)) (pos 0)
     → SuitParams (signature_at object callee).params (map Value (passed object callee stack top))
-    → Begins object callee slots × (given_to object callee slots ≡ passed object callee stack top)
-call_begins object sound callee within stack free slots top takes size takes_is enough inside free_is size_is count is suited =
+    → Begins object callee place slots × (begun_with object callee place slots ≡ map Value (passed object callee stack top))
+call_begins object sound callee within place stack free slots top takes size takes_is enough inside free_is size_is count is suited =
     let given : take takes free ≡ passed object callee stack top =
     ap (λ (xs : List ℤ). take takes xs) free_is
     ∙ arguments-in takes (top - takes) stack (omega arith)
@@ -220,6 +226,6 @@ call_begins object sound callee within stack free slots top takes size takes_is 
     ∙ ap (λ (n : ℕ). reverse (take n (values_in stack top))) takes_is in
     let there : top - takes + takes ≤ length stack = omega arith in
     let many : length (take takes free) ≡ takes = length-take-le takes free (omega (arith, ap length free_is, length-drop (top - takes) stack)) in
-    let begins = begins-entered object callee (take takes free) slots size is size_is count (many ∙ takes_is)
+    let begins = begins-entered object callee place (take takes free) slots size is size_is count (many ∙ takes_is)
     (subst (λ (xs : List ℤ). SuitParams (signature_at object callee).params (map Value xs)) (sym given) suited) in
-    (begins.0, begins.1 ∙ given)
+    (begins.0, begins.1 ∙ ap (λ (xs : List ℤ). map Value xs) given)

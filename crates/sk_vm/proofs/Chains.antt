@@ -167,8 +167,9 @@ pub turned : (object : Object) (room : Room) (frame after : Framed) (function : 
 turned object room frame after function are holds there is =
     let own = holds-each object room frame are holds function there in
     subst (HasRoom object) (sym is) (record {
-      entered = record { sound = are.sound; scalars = are.scalars; there = there };
+      entered = record { sound = are.sound; parameters = are.parameters; there = there };
       index = refl;
+      pairs = tt;
       stack = own.stack;
       slots = own.slots;
     })

@@ -6,19 +6,22 @@ use Rattle.std.specs.List.{list_all}
 use Rattle.std.proofs.lemmas.Option.{slice_get_within}
 use Rattle.sk_base.specs.declared.number.Op.{Op}
 use Rattle.sk_base.specs.declared.number.Ty.{Ty}
+use Rattle.sk_base.specs.declared.number.Ty.TheVariants.{Int}
 use Rattle.sk_base.specs.Arithmetic.{InRange, is_shift}
-use Rattle.sk_meaning.specs.Evaluation.{kind_type}
-use Rattle.sk_tree.specs.Parameters.{is_field}
+use Rattle.std.proofs.lemmas.Bool.{leb-true}
+use Rattle.sk_meaning.specs.Evaluation.{Argument, Place, kind_type}
+use Rattle.sk_tree.specs.Parameters.{is_field, is_index_field}
 use Rattle.sk_tree.specs.declared.tree.ParamKind.{ParamKind}
 use Rattle.sk_tree.specs.declared.tree.ParamKind.TheVariants.{Scalar, Index, Proxy, Region as RegionKind}
 use Rattle.sk_isa.specs.declared.code.Instr.{Instr}
 use Rattle.sk_isa.specs.declared.code.Instr.TheVariants.{Push, Pop, Load, Store, Field, Item, Region, Neg, Inv, Not, Wrap, Binary, Jump, Zero, Turn, Call, Ret}
 use Rattle.sk_kernel.specs.Kernels.{AreOfTypes}
-use Rattle.sk_isa.specs.Soundness.{Left, Named, has_field, is_number, is_scalar, item_type, leads_to, left_by, left_if, left_with, number_type, of_many, of_one, of_two, region_type, scalar_in, serves, left_by_ret}
+use Rattle.sk_isa.specs.Soundness.{Left, Named, SuitParams, has_field, is_kind, is_number, is_scalar, item_type, leads_to, left_by, left_if, left_with, number_type, of_many, of_one, of_two, region_type, scalar_in, serves, left_by_ret}
 use Rattle.sk_isa_laws.proofs.Steps.{left_if_so, left_with_so, scalar_so, item_so, region_so}
 use Rattle.sk_isa_laws.proofs.TypedLists.{typed-length}
 use Rattle.sk_isa_laws.proofs.Values.{served}
 use Rattle.sk_vm.specs.Needs.{Needs}
+use Rattle.sk_vm.specs.Places.{HasField, arguments_with, takes_places}
 use Rattle.sk_vm.specs.Points.{values_in}
 use Rattle.sk_vm.proofs.Values.{length-values_in, values_in-last}
 
@@ -68,11 +71,31 @@ slot_there named slot ty slots e typed =
     let count : length (map kind_type named.own.slots) ≡ length slots = typed-length (map kind_type named.own.slots) slots typed in
     omega (arith, length-map named.own.slots kind_type)
 
--- parameters that are scalars have no fields and no elements
+-- parameters that are scalars have no fields
 all_at : (kinds : List ParamKind) (k : ℕ) (kind : ParamKind) → list_all is_scalar kinds ≡ true → slice_get kinds k ≡ Some kind → is_scalar kind ≡ true
 all_at [] k kind all e = cc
 all_at (own ∷ kinds) zero kind all e = let same : own ≡ kind = cc in subst (λ (p : ParamKind). is_scalar p ≡ true) same (first_so (is_scalar own) (list_all is_scalar kinds) all)
 all_at (own ∷ kinds) (suc k) kind all e = all_at kinds k kind (second_so (is_scalar own) (list_all is_scalar kinds) all) e
+
+pub all_scalars : (kinds : List ParamKind) → list_all is_scalar kinds ≡ true → (k : ℕ) (kind : ParamKind) → slice_get kinds k ≡ Some kind → is_scalar kind ≡ true
+all_scalars kinds all k kind e = all_at kinds k kind all e
+
+-- no parameter is a container or a region
+no_proxy : (kinds : List ParamKind) (k dimension : ℕ) (ty : Ty) → takes_places kinds ≡ true → slice_get kinds k ≡ Some (Proxy dimension ty) → ⊥
+no_proxy [] k dimension ty takes e = cc
+no_proxy (Scalar own ∷ kinds) k dimension ty takes e = let not_so : false ≡ true = all_at (Scalar own ∷ kinds) k (Proxy dimension ty) takes e in cc
+no_proxy (Index places ∷ kinds) zero dimension ty takes e = cc
+no_proxy (Index places ∷ kinds) (suc k) dimension ty takes e = let not_so : false ≡ true = all_at kinds k (Proxy dimension ty) takes e in cc
+no_proxy (Proxy places own ∷ kinds) k dimension ty takes e = cc
+no_proxy (RegionKind places own ∷ kinds) k dimension ty takes e = cc
+
+no_neighbours : (kinds : List ParamKind) (k dimension : ℕ) (ty : Ty) → takes_places kinds ≡ true → slice_get kinds k ≡ Some (RegionKind dimension ty) → ⊥
+no_neighbours [] k dimension ty takes e = cc
+no_neighbours (Scalar own ∷ kinds) k dimension ty takes e = let not_so : false ≡ true = all_at (Scalar own ∷ kinds) k (RegionKind dimension ty) takes e in cc
+no_neighbours (Index places ∷ kinds) zero dimension ty takes e = cc
+no_neighbours (Index places ∷ kinds) (suc k) dimension ty takes e = let not_so : false ≡ true = all_at kinds k (RegionKind dimension ty) takes e in cc
+no_neighbours (Proxy places own ∷ kinds) k dimension ty takes e = cc
+no_neighbours (RegionKind places own ∷ kinds) k dimension ty takes e = cc
 
 no_field : (found : Option ParamKind) (name : List ℕ) → ((kind : ParamKind) → found ≡ Some kind → is_scalar kind ≡ true)
     → elim found [ Some kind ↦ is_field kind name | None ↦ false ] ≡ true → ⊥
@@ -91,21 +114,45 @@ many_there count types left next e = pick (nat_le count (length types)) e
     pick true e = e
     pick false e = cc
 
-no_item : (named : Named) (slot places : ℕ) (rest left : List Ty) → list_all is_scalar named.own.params ≡ true
+no_item : (named : Named) (slot places : ℕ) (rest left : List Ty) → takes_places named.own.params ≡ true
     → left_with (item_type named slot places) rest ≡ Some left → ⊥
-no_item named slot places rest left scalars e =
+no_item named slot places rest left takes e =
     let with = left_with_so (item_type named slot places) rest left e in
     let found = item_so (slice_get named.own.params slot) places with.0 with.1 in
-    let scalar : false ≡ true = all_at named.own.params slot (Proxy found.0 with.0) scalars found.1 in
-    cc
+    no_proxy named.own.params slot found.0 with.0 takes found.1
 
-no_region : (named : Named) (slot places : ℕ) (rest left : List Ty) → list_all is_scalar named.own.params ≡ true
+no_region : (named : Named) (slot places : ℕ) (rest left : List Ty) → takes_places named.own.params ≡ true
     → left_with (region_type named slot places) rest ≡ Some left → ⊥
-no_region named slot places rest left scalars e =
+no_region named slot places rest left takes e =
     let with = left_with_so (region_type named slot places) rest left e in
     let found = region_so (slice_get named.own.params slot) places with.0 with.1 in
-    let scalar : false ≡ true = all_at named.own.params slot (RegionKind found.0 with.0) scalars found.1 in
-    cc
+    no_neighbours named.own.params slot found.0 with.0 takes found.1
+
+-- a field is that of an index, which is given the place
+pub record IsField (place name : List ℕ) (slot : ℕ) (arguments : List Argument) : Type 0 where
+  pub has : HasField place name
+  pub given : slice_get arguments slot ≡ Some (Place place)
+
+index_field : (dimension : ℕ) (place name : List ℕ) → is_kind (Index dimension) ≡ true → length place ≡ dimension → is_index_field dimension name ≡ true → HasField place name
+index_field dimension place name kind size field =
+    let some = leb-true 1 dimension (first_so (nat_le 1 dimension) (nat_le dimension 4) kind) in
+    let few = leb-true dimension 4 (second_so (nat_le 1 dimension) (nat_le dimension 4) kind) in
+    record { some = omega arith; few = omega arith; field = ap (λ (n : ℕ). is_index_field n name) size ∙ field }
+
+pub field_there : (params : List ParamKind) (place name : List ℕ) (slot : ℕ) (numbers : List ℤ) → takes_places params ≡ true → list_all is_kind params ≡ true
+    → SuitParams params (arguments_with params place numbers) → elim (slice_get params slot) [ Some kind ↦ is_field kind name | None ↦ false ] ≡ true
+    → IsField place name slot (arguments_with params place numbers)
+field_there [] place name slot numbers takes kinds suits e = cc
+field_there (Scalar ty ∷ kinds) place name slot numbers takes are suits e =
+    absurd (no_field (slice_get (Scalar ty ∷ kinds) slot) name (all_scalars (Scalar ty ∷ kinds) takes slot) e)
+field_there (Index dimension ∷ kinds) place name zero numbers takes are suits e = record {
+  has = index_field dimension place name (first_so (is_kind (Index dimension)) (list_all is_kind kinds) are) suits.0.0 e;
+  given = refl;
+}
+field_there (Index dimension ∷ kinds) place name (suc slot) numbers takes are suits e =
+    absurd (no_field (slice_get kinds slot) name (all_scalars kinds takes slot) e)
+field_there (Proxy dimension ty ∷ kinds) place name slot numbers takes are suits e = cc
+field_there (RegionKind dimension ty ∷ kinds) place name slot numbers takes are suits e = cc
 
 returns_one : (ret : Ty) (types left : List Ty) (stack : List ℤ) (top : ℕ) → left_by_ret ret types ≡ Some left → AreOfTypes types (values_in stack top) → 0 < top
 returns_one ret [] left stack top e typed = cc
@@ -119,18 +166,19 @@ room_for types left ty stack top e typed room =
     omega arith
 
 -- what the types say is there
-pub needs_met : (named : Named) (instr : Instr) (at : ℕ) (types left : List Ty) (stack slots : List ℤ) (top : ℕ)
-    → list_all is_scalar named.own.params ≡ true → left_by named instr types ≡ Some left
+pub needs_met : (named : Named) (instr : Instr) (place : List ℕ) (at : ℕ) (types left : List Ty) (stack slots : List ℤ) (top : ℕ)
+    → takes_places named.own.params ≡ true → ((slot : ℕ) (name : List ℕ) → has_field named slot name ≡ true → HasField place name)
+    → left_by named instr types ≡ Some left
     → AreOfTypes types (values_in stack top) → AreOfTypes (map kind_type named.own.slots) slots
     → ((to : ℕ) → Contains (leads_to instr at) to → length left ≤ length stack)
-    → Needs instr top stack slots
-needs_met named (Push number) at types left stack slots top scalars e typed kept room =
+    → Needs instr place top stack slots
+needs_met named (Push number) place at types left stack slots top takes fields e typed kept room =
     room_for types left (number_type number) stack top (left_if_so (is_number number) (number_type number ∷ types) left e).1 typed (room (suc at) (0, omega arith, refl))
-needs_met named Pop at types left stack slots top scalars e typed kept room = one_there types left _ stack top e typed
-needs_met named (Load slot) at types left stack slots top scalars e typed kept room =
+needs_met named Pop place at types left stack slots top takes fields e typed kept room = one_there types left _ stack top e typed
+needs_met named (Load slot) place at types left stack slots top takes fields e typed kept room =
     let with = left_with_so (scalar_in named slot) types left e in
     (slot_there named slot with.0 slots with.1 kept, room_for types left with.0 stack top with.2 typed (room (suc at) (0, omega arith, refl)))
-needs_met named (Store slot) at types left stack slots top scalars e typed kept room = (by types e, one_there types left _ stack top e typed)
+needs_met named (Store slot) place at types left stack slots top takes fields e typed kept room = (by types e, one_there types left _ stack top e typed)
   where
     stored_in : (found : Option Ty) (ty : Ty) (rest : List Ty) → scalar_in named slot ≡ found
         → elim found [ Some wanted ↦ left_if (serves ty wanted) rest | None ↦ None ] ≡ Some left → slot < length slots
@@ -141,20 +189,21 @@ needs_met named (Store slot) at types left stack slots top scalars e typed kept 
         → slot < length slots
     by [] e = cc
     by (ty ∷ rest) e = stored_in (scalar_in named slot) ty rest refl e
-needs_met named (Neg ty) at types left stack slots top scalars e typed kept room = one_there types left _ stack top e typed
-needs_met named (Inv ty) at types left stack slots top scalars e typed kept room = one_there types left _ stack top e typed
-needs_met named Not at types left stack slots top scalars e typed kept room = one_there types left _ stack top e typed
-needs_met named Wrap at types left stack slots top scalars e typed kept room = one_there types left _ stack top e typed
-needs_met named (Binary op ty) at types left stack slots top scalars e typed kept room = operands_there op ty types left stack top _ e typed
-needs_met named (Jump to) at types left stack slots top scalars e typed kept room = tt
-needs_met named (Zero to) at types left stack slots top scalars e typed kept room = one_there types left _ stack top e typed
-needs_met named Turn at types left stack slots top scalars e typed kept room = tt
-needs_met named (Call function) at types left stack slots top scalars e typed kept room = tt
-needs_met named Ret at types left stack slots top scalars e typed kept room = returns_one named.own.ret types left stack top e typed
-needs_met named (Field slot name) at types left stack slots top scalars e typed kept room =
-    no_field (slice_get named.own.params slot) name (λ kind is. all_at named.own.params slot kind scalars is) (left_if_so (has_field named slot name) _ left e).0
-needs_met named (Item slot places) at types left stack slots top scalars e typed kept room =
-    no_item named slot places _ left scalars (many_there places types left (λ given rest. left_with (item_type named slot places) rest) e)
-needs_met named (Region slot places) at types left stack slots top scalars e typed kept room =
-    no_region named slot places _ left scalars (many_there places types left (λ given rest. left_with (region_type named slot places) rest) e)
-needs_met named instr at types left stack slots top scalars e typed kept room = cc
+needs_met named (Neg ty) place at types left stack slots top takes fields e typed kept room = one_there types left _ stack top e typed
+needs_met named (Inv ty) place at types left stack slots top takes fields e typed kept room = one_there types left _ stack top e typed
+needs_met named Not place at types left stack slots top takes fields e typed kept room = one_there types left _ stack top e typed
+needs_met named Wrap place at types left stack slots top takes fields e typed kept room = one_there types left _ stack top e typed
+needs_met named (Binary op ty) place at types left stack slots top takes fields e typed kept room = operands_there op ty types left stack top _ e typed
+needs_met named (Jump to) place at types left stack slots top takes fields e typed kept room = tt
+needs_met named (Zero to) place at types left stack slots top takes fields e typed kept room = one_there types left _ stack top e typed
+needs_met named Turn place at types left stack slots top takes fields e typed kept room = tt
+needs_met named (Call function) place at types left stack slots top takes fields e typed kept room = tt
+needs_met named Ret place at types left stack slots top takes fields e typed kept room = returns_one named.own.ret types left stack top e typed
+needs_met named (Field slot name) place at types left stack slots top takes fields e typed kept room =
+    let so = left_if_so (has_field named slot name) (Int ∷ types) left e in
+    (room_for types left Int stack top so.1 typed (room (suc at) (0, omega arith, refl)), fields slot name so.0)
+needs_met named (Item slot places) place at types left stack slots top takes fields e typed kept room =
+    absurd (no_item named slot places _ left takes (many_there places types left (λ given rest. left_with (item_type named slot places) rest) e))
+needs_met named (Region slot places) place at types left stack slots top takes fields e typed kept room =
+    absurd (no_region named slot places _ left takes (many_there places types left (λ given rest. left_with (region_type named slot places) rest) e))
+needs_met named instr place at types left stack slots top takes fields e typed kept room = cc

@@ -1,10 +1,10 @@
 -- The value of a function that was begun with arguments from data.
-use Rattle.std.proofs.Common.{◌≡◌, ℕ, suc, ◌-◌, ◌<◌, ◌≤◌, true, List, length, drop, map, replicate, ℤ, pos, Result, Ok, sym, ap, subst, arith}
+use Rattle.std.proofs.Common.{◌≡◌, ℕ, suc, ◌-◌, ◌<◌, ◌≤◌, true, List, length, take, drop, replicate, ℤ, pos, Result, Ok, sym, ap, subst, arith}
 use Rattle.std.specs.List.{list_all}
 use Rattle.std.proofs.lemmas.List.{length-take-le}
 use Rattle.sk_base.specs.declared.number.Trap.{Trap}
 use Rattle.sk_base.specs.Arithmetic.{InRange}
-use Rattle.sk_meaning.specs.Evaluation.{Argument, Value, turn_limit, value_only}
+use Rattle.sk_meaning.specs.Evaluation.{Argument, turn_limit, value_only}
 use Rattle.sk_isa.specs.declared.object.Object.{Object}
 use Rattle.sk_isa.specs.declared.object.Signature.{Signature}
 use Rattle.sk_isa.specs.Coded.{function_of}
@@ -17,9 +17,11 @@ use Rattle.sk_isa.specs.Soundness.{SuitParams, is_scalar}
 use Rattle.sk_isa_laws.specs.Steps.{IsGiven}
 use Rattle.sk_isa_laws.proofs.Callees.{functions_have_values, there}
 use Rattle.sk_vm.specs.Arguments.{CanPass, Passes}
-use Rattle.sk_vm.specs.Rooms.{Begins, given_to, slots_at}
-use Rattle.sk_vm.proofs.Arguments.{can_pass, suited, as_defined}
-use Rattle.sk_vm.proofs.Middle.{params_scalar, scalar_slots}
+use Rattle.sk_tree.specs.declared.tree.ParamKind.{ParamKind}
+use Rattle.sk_vm.specs.Places.{ReadsPairs, TakesPlaces, counted_at, indices_in, takes_places}
+use Rattle.sk_vm.specs.Rooms.{Begins, begun_with, given_to, slots_at}
+use Rattle.sk_vm.proofs.Middle.{params_place, params_scalar, place_slots, scalar_slots}
+use Rattle.sk_vm.proofs.Places.{can_pass_behind, defined_with, numbers_with, suited_with}
 use Rattle.sk_vm.proofs.Starts.{signature_at-is}
 
 -- the parameters of each function are scalars, and at most 64
@@ -48,31 +50,55 @@ value-in_range object sound function within arguments suits value left is =
     subst (λ (s : Signature). InRange s.ret value) (sym same)
     (subst (λ (r : Result (ℤ × ℕ) Trap). IsGiven own.0.ret turn_limit r) is given).0
 
+-- the parameters of each function are scalars behind an index, and at most 64
+pub places_only : (object : Object) → HasSoundFunctions object → TakesPlaces object → (function : ℕ) → function < length object.functions
+    → (takes_places (signature_at object function).params ≡ true) × (length (signature_at object function).params ≤ 64)
+places_only object sound parameters function within =
+    let count : length object.signatures ≡ suc (length object.functions) = sound.signatures in
+    let code = there object.functions function within in
+    let own = there object.signatures function (omega arith) in
+    let is_sound = sound.functions function code.0 own.0 code.1 own.1 in
+    let P : Signature → Type 0 = λ s. (takes_places s.params ≡ true) × (length s.params ≤ 64) in
+    subst P (sym (signature_at-is object function own.0 own.1))
+    (params_place own.0.params own.0.slots is_sound.slots (place_slots object function own.0 parameters own.1), is_sound.params)
+
 -- data that suits a function
-module _ (object : Object) (sound : HasSoundFunctions object) (scalars : TakesScalars object) (function : ℕ) (within : function < length object.functions) (reading : Reading)
-    (source : Source) (place pair : ℕ) (suits : Suits (function_meaning object function reading) source place pair) where
-  pub passable : CanPass source reading.elements reading.pairs place pair (length (signature_at object function).params)
-  passable = can_pass (signature_at object function).params reading source place pair (scalars_only object sound scalars function within).0 suits.uniforms suits.held
+module _ (object : Object) (sound : HasSoundFunctions object) (parameters : TakesPlaces object) (function : ℕ) (within : function < length object.functions) (reading : Reading)
+    (source : Source) (place pair : ℕ) (pairs : ReadsPairs reading.pairs reading.elements (signature_at object function).params)
+    (suits : Suits (function_meaning object function reading) source place pair) where
+  abbrev params : List ParamKind
+  params = (signature_at object function).params
 
-  module _ (slots : List ℤ) (fit : length (signature_at object function).params ≤ length slots)
-      (passes : Passes source reading.elements reading.pairs place pair (given_to object function slots)) where
-    count : length (signature_at object function).params ≡ length (given_to object function slots)
-    count = sym (length-take-le (length (signature_at object function).params) slots fit)
+  takes : takes_places params ≡ true
+  takes = (places_only object sound parameters function within).0
 
-    pub given_suit : SuitParams (signature_at object function).params (map Value (given_to object function slots))
+  pub passable : CanPass source reading.elements reading.pairs place pair (length params - indices_in params)
+  passable = can_pass_behind params reading source place pair takes suits.uniforms suits.held
+
+  module _ (placed : List ℕ) (placed_is : 0 < indices_in params → placed ≡ counted_at source reading.pairs place pair)
+      (slots : List ℤ) (fit : length params ≤ length slots)
+      (passes : Passes source reading.elements reading.pairs place pair (drop (indices_in params) (given_to object function slots))) where
+    count : length params ≡ length (given_to object function slots)
+    count = sym (length-take-le (length params) slots fit)
+
+    pub given_suit : SuitParams params (begun_with object function placed slots)
     given_suit =
-        suited (signature_at object function).params reading source place pair (scalars_only object sound scalars function within).0 suits.uniforms suits.held
+        suited_with params reading source place pair takes suits.uniforms suits.held pairs suits.operands suits.over placed placed_is
         (given_to object function slots) count passes
 
-    pub begins_given : length slots ≡ slots_at object.functions function
-        → drop (length (signature_at object function).params) slots ≡ replicate (length slots - length (signature_at object function).params) (pos 0)
-        → Begins object function slots
-    begins_given size others = record { count = size; suited = given_suit; others = others }
+    pub begins_given : take (indices_in params) (given_to object function slots) ≡ replicate (indices_in params) (pos 0)
+        → length slots ≡ slots_at object.functions function → drop (length params) slots ≡ replicate (length slots - length params) (pos 0)
+        → Begins object function placed slots
+    begins_given first size others = record {
+      count = size;
+      suited = given_suit;
+      numbers = numbers_with params placed (given_to object function slots) count first;
+      others = others;
+    }
 
     pub value_given : (cells : ℕ → ℕ → ℤ) → Agree (function_meaning object function reading) source place pair cells
-        → value_only (function_of object function (map Value (given_to object function slots)) turn_limit)
+        → value_only (function_of object function (begun_with object function placed slots) turn_limit)
         ≡ (function_meaning object function reading).value (given_by source cells) place pair
     value_given cells agree =
         ap (λ (arguments : List Argument). invoked object function arguments)
-        (as_defined (signature_at object function).params reading source place pair (scalars_only object sound scalars function within).0 suits.uniforms suits.held
-        (given_to object function slots) count passes cells agree)
+        (defined_with params reading source place pair takes suits.uniforms suits.held placed placed_is (given_to object function slots) count passes cells agree)

@@ -1,14 +1,14 @@
 -- Marked functions never trap.
-use Rattle.std.proofs.Common.{◌≡◌, ℕ, zero, suc, ◌+◌, ◌<◌, true, ◌&&◌, ◌==◌, nat_le, List, [], ◌∷◌, length, ℤ, pos, Option, Some, None, Ok, IsSomeAnd, IsOk, slice_get, slice_index_or, refl, sym, ap, subst, ◌∙◌, arith}
-use Rattle.std.specs.Prelude.{not}
+use Rattle.std.proofs.Common.{◌≡◌, ℕ, zero, suc, ◌+◌, ◌<◌, ◌≤◌, true, Bool, ◌&&◌, ◌==◌, nat_le, List, [], ◌∷◌, length, ℤ, pos, Option, Some, None, Ok, IsSomeAnd, IsOk, slice_get, slice_index_or, refl, sym, ap, subst, ◌∙◌, arith, false}
+use Rattle.std.specs.Prelude.{if◌then◌else◌, not, unwrap_or}
 use Rattle.std.specs.List.{list_all, list_any}
-use Rattle.std.proofs.lemmas.Bool.{eqb-true}
+use Rattle.std.proofs.lemmas.Bool.{eqb-true, leb-true}
 use Rattle.std.specs.Cmp.{first_so, second_so}
 use Rattle.std.proofs.lemmas.Option.{get_or_from_slice_get, slice_get_within}
 use Rattle.sk_base.specs.declared.number.Ty.{Ty}
 use Rattle.sk_base.specs.declared.number.Ty.TheVariants.{Int, Long}
 use Rattle.sk_base.specs.Arithmetic.{InRange}
-use Rattle.sk_meaning.specs.Evaluation.{Argument, Value}
+use Rattle.sk_meaning.specs.Evaluation.{Argument, Value, Place}
 use Rattle.sk_tree.specs.declared.tree.ParamKind.{ParamKind}
 use Rattle.sk_tree.specs.declared.tree.ParamKind.TheVariants.{Scalar, Index, Proxy, Region}
 use Rattle.sk_tree.specs.declared.tree.Skeleton.{Skeleton}
@@ -18,20 +18,23 @@ use Rattle.sk_tree.specs.Skeletons.{fits_skeleton, function_count, is_operator, 
 use Rattle.sk_tree.specs.Parameters.{index_dimension, index_fits, is_region, leading_scalars, same_type}
 use Rattle.sk_isa.specs.declared.object.Object.{Object}
 use Rattle.sk_isa.specs.declared.object.Plan.{Plan}
-use Rattle.sk_arguments.specs.Arguments.{At, Given, Reading, arguments_after, arguments_of, element_index, uniform_types}
-use Rattle.sk_kernel.specs.Kernels.{DependsOnReads, NeverTraps, NeverTrapsJoining}
+use Rattle.sk_arguments.specs.Arguments.{At, Given, Reading, arguments_after, arguments_of, element_index, operand_kinds, place_of, reads_of, uniform_types}
+use Rattle.sk_arguments.specs.Places.{coordinates_of}
+use Rattle.sk_kernel.specs.Kernels.{AreOfTypes, DependsOnReads, IsAlike, NeverTraps, NeverTrapsJoining, SuitKinds, SuitsOver, holding_all, place_in}
 use Rattle.sk_isa.specs.Objects.{function_at, invoked, is_marked, signature_at}
 use Rattle.sk_kernel.specs.Instances.{function_meaning, instance_meaning, operator_type, reading_of}
-use Rattle.sk_isa.specs.SoundObjects.{HasSoundFunctions, IsSoundPlan, TakesScalars, takes_elements}
+use Rattle.sk_isa.specs.SoundObjects.{HasSoundFunctions, IsSoundPlan, takes_elements}
 use Rattle.sk_isa.specs.Soundness.{SuitParams, is_scalar}
 use Rattle.sk_isa_laws.proofs.TypedLists.{typed_at}
 use Rattle.sk_vm.specs.Instantiated.{Instantiated, IsAtFirst, IsAtOperator, IsLawful, IsOf, Serves}
-use Rattle.sk_vm.specs.Frames.{CountsPairs, Framed, Holds, MayRead}
+use Rattle.sk_vm.specs.Frames.{CountsPairs, Framed, Holds, MayRead, reading_by}
+use Rattle.sk_vm.specs.Places.{ReadsPairs, TakesPlaces, takes_places}
 use Rattle.sk_vm.specs.Rooms.{AreRooms, room_of}
 use Rattle.sk_vm.specs.declared.rooms.Room.{Room}
 use Rattle.sk_vm.proofs.Chains.{holds-each}
 use Rattle.sk_vm.proofs.Arguments.{element_type, later, none_plus, one_more, plus_none, read_here, taken, uniform_type}
-use Rattle.sk_vm.proofs.Given.{scalars_only}
+use Rattle.sk_vm.proofs.Given.{places_only}
+use Rattle.sk_vm.proofs.Places.{HoldsFor, place_suits}
 
 -- arguments that are each of their parameter's type
 suits_defined : (reading : Reading) (given : Given) (at : At) (elements operand uniform : ℕ) (kinds : List ParamKind) → list_all is_scalar kinds ≡ true
@@ -169,8 +172,108 @@ may_read object plan fits index is =
     by skeleton.MapPairsReduce ty params kinds elements = (eqb-true plan.elements 2 elements, pairs_fit params kinds)
     by skeleton.Call ty params kinds elements = tt
 
--- an instance whose functions take scalars alone
-module _ (object : Object) (sound : HasSoundFunctions object) (scalars : TakesScalars object) (plan : Plan) (fits : IsSoundPlan object plan) where
+-- the skeletons that go over pairs take two scalars behind an index
+leading_few : (kinds : List ParamKind) → leading_scalars kinds ≤ length kinds
+leading_few [] = omega arith
+leading_few (Scalar ty ∷ kinds) = let rest = leading_few kinds in omega arith
+leading_few (Index dimension ∷ kinds) = let rest = leading_few kinds in omega arith
+leading_few (Proxy dimension ty ∷ kinds) = omega arith
+leading_few (Region dimension ty ∷ kinds) = omega arith
+
+pairs_of : (params : List ParamKind) (elements : ℕ) → (elements == 2) ≡ true
+    → (not (list_any is_region params) && nat_le 2 (leading_scalars params) && index_fits params 2) ≡ true → ReadsPairs true elements params
+pairs_of [] elements two fits = tt
+pairs_of (Scalar ty ∷ kinds) elements two fits = tt
+pairs_of (Proxy dimension ty ∷ kinds) elements two fits = tt
+pairs_of (Region dimension ty ∷ kinds) elements two fits = tt
+pairs_of (Index dimension ∷ kinds) elements two fits =
+    let params = Index dimension ∷ kinds in
+    let front = first_so (not (list_any is_region params) && nat_le 2 (leading_scalars params)) (index_fits params 2) fits in
+    let many = leb-true 2 (leading_scalars kinds) (second_so (not (list_any is_region params)) (nat_le 2 (leading_scalars params)) front) in
+    let few = leading_few kinds in
+    (pairs_fit params fits, eqb-true elements 2 two, omega arith)
+
+pub pairs_read : (object : Object) (plan : Plan) → IsSoundPlan object plan
+    → ReadsPairs (is_over_pairs plan.skeleton) plan.elements (signature_at object (function_at plan 0)).params
+pairs_read object plan fits =
+    by plan.skeleton (signature_at object (function_at plan 0)).ret (signature_at object (function_at plan 0)).params fits.first.kinds fits.first.elements
+  where
+    by : (kind : Skeleton) (ty : Ty) (params : List ParamKind) → fits_skeleton kind ty params ≡ true → takes_elements kind plan.elements params ≡ true
+        → ReadsPairs (is_over_pairs kind) plan.elements params
+    by skeleton.Map ty params kinds elements = tt
+    by skeleton.Reduce ty params kinds elements = tt
+    by skeleton.Scan ty params kinds elements = tt
+    by skeleton.MapReduce ty params kinds elements = tt
+    by skeleton.MapOverlap ty params kinds elements = tt
+    by skeleton.MapPairs ty params kinds elements = pairs_of params plan.elements elements kinds
+    by skeleton.MapPairsReduce ty params kinds elements = pairs_of params plan.elements elements kinds
+    by skeleton.Call ty params kinds elements = tt
+
+zero_plus : (k : ℕ) → k ≡ 0 + k
+zero_plus k = omega arith
+
+-- the arguments of scalars suit them
+scalars_suit : (params : List ParamKind) (reading : Reading) (given : Given) (place pair : ℕ) → list_all is_scalar params ≡ true
+    → AreOfTypes (uniform_types reading.elements params) given.uniforms → HoldsFor params reading (holding_all given) place pair
+    → SuitParams params (arguments_of reading params given (record { place = place; pair = pair }))
+scalars_suit params reading given place pair only uniforms held =
+    let at : At = record { place = place; pair = pair } in
+    suits_defined reading given at reading.elements 0 0 params only
+    (λ k ty is less. subst (λ (n : ℕ). InRange ty (given.cells n (element_index reading at n))) (zero_plus k)
+    (subst (λ (t : Ty). InRange t (given.cells k (element_index reading at k)))
+    (element_type reading.elements params k ty only is less)
+    (held k (element_index reading at k) (read_here reading params given.shapes at k ty only is less))))
+    (λ k ty is. subst (λ (n : ℕ). InRange ty (slice_index_or given.uniforms n (pos 0))) (zero_plus k)
+    (number_there ty given.uniforms k (typed_at (uniform_types reading.elements params) given.uniforms k ty uniforms
+    (uniform_type reading.elements params k ty only is))))
+
+-- and those of an index and scalars
+places_suit : (params : List ParamKind) (reading : Reading) (given : Given) (place pair : ℕ) → takes_places params ≡ true
+    → ReadsPairs reading.pairs reading.elements params → SuitKinds (operand_kinds reading.elements params) given.shapes (place_in reading.pairs place pair)
+    → SuitsOver (if reading.pairs then None else index_dimension params) given.over place
+    → AreOfTypes (uniform_types reading.elements params) given.uniforms → HoldsFor params reading (holding_all given) place pair
+    → SuitParams params (arguments_of reading params given (record { place = place; pair = pair }))
+places_suit [] reading given place pair takes reads operands over uniforms held = tt
+places_suit (Scalar ty ∷ kinds) reading given place pair takes reads operands over uniforms held =
+    scalars_suit (Scalar ty ∷ kinds) reading given place pair takes uniforms held
+places_suit (Index dimension ∷ kinds) reading given place pair takes reads operands over uniforms held = (
+  place_suits dimension kinds reading.elements reading.pairs (holding_all given) place pair takes reads operands over,
+  scalars_suit kinds reading given place pair takes uniforms held,
+)
+places_suit (Proxy dimension ty ∷ kinds) reading given place pair takes reads operands over uniforms held = cc
+places_suit (Region dimension ty ∷ kinds) reading given place pair takes reads operands over uniforms held = cc
+
+-- data that is alike gives the same arguments
+abbrev ReadAlike : (params : List ParamKind) → Reading → (one other : Given) → (place pair : ℕ) → Type 0
+ReadAlike params reading one other place pair =
+    (operand index : ℕ) → reads_of reading params one.shapes (record { place = place; pair = pair }) operand index ≡ true → one.cells operand index ≡ other.cells operand index
+
+scalars_alike : (params : List ParamKind) (reading : Reading) (one other : Given) (place pair : ℕ) → list_all is_scalar params ≡ true → IsAlike one other
+    → ReadAlike params reading one other place pair
+    → arguments_of reading params one (record { place = place; pair = pair }) ≡ arguments_of reading params other (record { place = place; pair = pair })
+scalars_alike params reading one other place pair only alike agree =
+    let at : At = record { place = place; pair = pair } in
+    same_arguments reading one other at reading.elements 0 0 params only
+    (λ k ty is less. subst (λ (n : ℕ). one.cells n (element_index reading at n) ≡ other.cells n (element_index reading at n)) (zero_plus k)
+    (agree k (element_index reading at k) (read_here reading params one.shapes at k ty only is less)))
+    alike.uniforms
+
+places_alike : (params : List ParamKind) (reading : Reading) (one other : Given) (place pair : ℕ) → takes_places params ≡ true → IsAlike one other
+    → ReadAlike params reading one other place pair
+    → arguments_of reading params one (record { place = place; pair = pair }) ≡ arguments_of reading params other (record { place = place; pair = pair })
+places_alike [] reading one other place pair takes alike agree = refl
+places_alike (Scalar ty ∷ kinds) reading one other place pair takes alike agree =
+    scalars_alike (Scalar ty ∷ kinds) reading one other place pair takes alike agree
+places_alike (Index dimension ∷ kinds) reading one other place pair takes alike agree =
+    ap (λ (over : Option (List ℕ)). Place (if reading.pairs then place ∷ pair ∷ [] else coordinates_of (unwrap_or over []) place)
+    ∷ arguments_of reading kinds one (record { place = place; pair = pair })) alike.over
+    ∙ ap (λ (rest : List Argument). Place (place_of reading other (record { place = place; pair = pair })) ∷ rest)
+    (scalars_alike kinds reading one other place pair takes alike agree)
+places_alike (Proxy dimension ty ∷ kinds) reading one other place pair takes alike agree = cc
+places_alike (Region dimension ty ∷ kinds) reading one other place pair takes alike agree = cc
+
+-- an instance whose functions take no region and no container
+module _ (object : Object) (sound : HasSoundFunctions object) (parameters : TakesPlaces object) (plan : Plan) (fits : IsSoundPlan object plan) where
   abbrev params : List ParamKind
   params = (signature_at object (function_at plan 0)).params
 
@@ -180,34 +283,19 @@ module _ (object : Object) (sound : HasSoundFunctions object) (scalars : TakesSc
   some : 0 < length plan.functions
   some = first_function plan object fits
 
-  only : list_all is_scalar params ≡ true
-  only = (scalars_only object sound scalars (function_at plan 0) (fits.there 0 0 some)).0
-
-  zero_plus : (k : ℕ) → k ≡ 0 + k
-  zero_plus k = omega arith
+  takes : takes_places params ≡ true
+  takes = (places_only object sound parameters (function_at plan 0) (fits.there 0 0 some)).0
 
   never : NeverTraps (instance_meaning object plan default_settings)
   never all given place pair suits =
-      let at : At = record { place = place; pair = pair } in
       (sound.marks (function_at plan 0) (marked_at object plan.functions 0 all some)).has_value
-      (arguments_of reading params given at)
-      (suits_defined reading given at reading.elements 0 0 params only
-      (λ k ty is less. subst (λ (n : ℕ). InRange ty (given.cells n (element_index reading at n))) (zero_plus k)
-      (subst (λ (t : Ty). InRange t (given.cells k (element_index reading at k)))
-      (element_type reading.elements params k ty only is less)
-      (suits.held k (element_index reading at k) (read_here reading params given.shapes at k ty only is less))))
-      (λ k ty is. subst (λ (n : ℕ). InRange ty (slice_index_or given.uniforms n (pos 0))) (zero_plus k)
-      (number_there ty given.uniforms k (typed_at (uniform_types reading.elements params) given.uniforms k ty suits.uniforms
-      (uniform_type reading.elements params k ty only is)))))
+      (arguments_of reading params given (record { place = place; pair = pair }))
+      (places_suit params reading given place pair takes (pairs_read object plan fits) suits.operands suits.over suits.uniforms suits.held)
 
   depends : DependsOnReads (instance_meaning object plan default_settings)
   depends one other place pair alike agree suits =
-      let at : At = record { place = place; pair = pair } in
       ap (λ (arguments : List Argument). invoked object (function_at plan 0) arguments)
-      (same_arguments reading one other at reading.elements 0 0 params only
-      (λ k ty is less. subst (λ (n : ℕ). one.cells n (element_index reading at n) ≡ other.cells n (element_index reading at n)) (zero_plus k)
-      (agree k (element_index reading at k) (read_here reading params one.shapes at k ty only is less)))
-      alike.uniforms)
+      (places_alike params reading one other place pair takes alike agree)
 
   joining : NeverTrapsJoining (instance_meaning object plan default_settings)
   joining all a b joined = by (operator_place plan.skeleton) refl joined
@@ -232,6 +320,34 @@ first_meaning object instance frame same first =
     ap (λ (o : Object). function_meaning o frame.function frame.reading) same
     ∙ ap (λ (f : ℕ). function_meaning instance.object f frame.reading) first.function
     ∙ ap (λ (r : Reading). function_meaning instance.object (function_at instance.plan 0) r) first.reading
+
+-- a frame that is turned to an instance's first function
+pub at_first : (instance : Instantiated) (before turned after : Framed) (object : Object) (function elements : ℕ) (pairs : Bool) → object ≡ instance.object
+    → function ≡ function_at instance.plan 0 → elements ≡ instance.plan.elements → pairs ≡ is_over_pairs instance.plan.skeleton
+    → turned ≡ record before { function = function; index = index_dimension (signature_at object function).params; reading = reading_by 0 false }
+    → after ≡ record turned { reading = reading_by elements pairs }
+    → HasSoundFunctions instance.object → TakesPlaces instance.object → IsSoundPlan instance.object instance.plan → Serves instance before → IsAtFirst instance after
+at_first instance before turned after object function elements pairs object_is function_is elements_is pairs_is turned_is after_is sound parameters fits serves =
+    let some = first_function instance.plan instance.object fits in
+    let own = serves.room 0 some in
+    let is =
+    after_is
+    ∙ ap (λ (t : Framed). record t { reading = reading_by elements pairs }) turned_is
+    ∙ ap (λ (o : Object). record before { function = function; index = index_dimension (signature_at o function).params; reading = reading_by elements pairs }) object_is
+    ∙ ap (λ (f : ℕ). record before { function = f; index = index_dimension (signature_at instance.object f).params; reading = reading_by elements pairs }) function_is
+    ∙ ap (λ (n : ℕ). record before { function = function_at instance.plan 0; index = index_dimension (signature_at instance.object (function_at instance.plan 0)).params; reading = reading_by n pairs }) elements_is
+    ∙ ap (λ (p : Bool). record before { function = function_at instance.plan 0; index = index_dimension (signature_at instance.object (function_at instance.plan 0)).params; reading = reading_by instance.plan.elements p }) pairs_is in
+    subst (IsAtFirst instance) (sym is) (record {
+      room = record {
+        entered = record { sound = sound; parameters = parameters; there = fits.there 0 0 some };
+        index = refl;
+        pairs = pairs_read instance.object instance.plan fits;
+        stack = own.stack;
+        slots = own.slots;
+      };
+      function = refl;
+      reading = refl;
+    })
 
 -- numbers that a frame takes that is turned to an instance's operator
 pub operator_suits : (instance : Instantiated) (frame : Framed) → IsSoundPlan instance.object instance.plan → IsAtOperator instance frame

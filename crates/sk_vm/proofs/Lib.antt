@@ -1,7 +1,9 @@
 pub mod Arguments
 pub mod Arms
+pub mod Behind
 pub mod Calls
 pub mod Chains
+pub mod Coordinates
 pub mod Evaluated
 pub mod Finds
 pub mod Given
@@ -9,6 +11,7 @@ pub mod Lawful
 pub mod Middle
 pub mod Parameters
 pub mod PlaceParts
+pub mod Places
 pub mod Ran
 pub mod Running
 pub mod Starts

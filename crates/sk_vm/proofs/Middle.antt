@@ -5,26 +5,30 @@ use Rattle.std.specs.Cmp.{first_so, second_so}
 use Rattle.std.specs.Cmp.Lexicographic.{pointwise}
 use Rattle.std.proofs.lemmas.Option.{get_or_from_slice_get, same_Some, slice_get_within}
 use Rattle.sk_base.specs.declared.number.Ty.{Ty}
+use Rattle.sk_base.specs.declared.number.Ty.TheVariants.{Int}
 use Rattle.sk_meaning.specs.Evaluation.{Value}
 use Rattle.sk_tree.specs.declared.tree.ParamKind.{ParamKind}
+use Rattle.sk_tree.specs.declared.tree.ParamKind.TheVariants.{Scalar, Index, Proxy, Region}
 use Rattle.sk_isa.specs.declared.code.Code.{Code}
 use Rattle.sk_isa.specs.declared.code.Instr.{Instr}
-use Rattle.sk_isa.specs.declared.code.Instr.TheVariants.{Call}
+use Rattle.sk_isa.specs.declared.code.Instr.TheVariants.{Field, Call}
 use Rattle.sk_isa.specs.declared.object.Object.{Object}
 use Rattle.sk_isa.specs.declared.object.Signature.{Signature}
 use Rattle.sk_isa.specs.Coded.{Next, function_of, next_of}
 use Rattle.sk_isa.specs.Configurations.{returning}
 use Rattle.sk_isa.specs.Objects.{signature_at}
-use Rattle.sk_isa.specs.Soundness.{AreSlots, IsFineAt, Named, SuitParams, Types, is_scalar, leads_to, left_by, serves}
+use Rattle.sk_isa.specs.Soundness.{AreSlots, IsFineAt, Named, SuitParams, Types, has_field, is_scalar, leads_to, left_by, serves}
 use Rattle.sk_isa.specs.SoundObjects.{HasSoundFunctions, TakesScalars}
+use Rattle.sk_isa_laws.proofs.Steps.{left_if_so}
 use Rattle.sk_isa_laws.proofs.TypedLists.{typed-length}
 use Rattle.sk_vm.specs.declared.stack.Stand.{Stand}
 use Rattle.sk_vm.specs.Calls.{MayCall}
 use Rattle.sk_vm.specs.Needs.{Needs}
-use Rattle.sk_vm.specs.Points.{values_in, point_at}
-use Rattle.sk_vm.specs.Rooms.{room_of, slots_at}
+use Rattle.sk_vm.specs.Places.{TakesPlaces, arguments_with, takes_places}
+use Rattle.sk_vm.specs.Points.{values_in, point_at, FindsPlace}
+use Rattle.sk_vm.specs.Rooms.{begun_with, given_to, room_of, slots_at}
 use Rattle.sk_vm.proofs.Calls.{call_found, calls-next, passed}
-use Rattle.sk_vm.proofs.Finds.{needs_met}
+use Rattle.sk_vm.proofs.Finds.{IsField, field_there, needs_met}
 use Rattle.sk_vm.proofs.Chains.{room-callee, room-own}
 use Rattle.sk_vm.proofs.Running.{Running, routine_at}
 use Rattle.sk_vm.proofs.Starts.{signature_at-is, slots_at-is}
@@ -81,9 +85,25 @@ scalar_slots object function own scalars is =
     subst (λ (s : Signature). list_all is_scalar s.slots ≡ true) (get_or_from_slice_get object.signatures function own own is)
     (scalars function own (slice_get_within object.signatures function own is))
 
+-- the same of parameters behind an index
+pub params_place : (params slots : List ParamKind) → AreSlots params slots → takes_places slots ≡ true → takes_places params ≡ true
+params_place [] slots are e = refl
+params_place (param ∷ params) [] are e = absurd are
+params_place (param ∷ params) (Scalar ty ∷ slots) are e =
+    subst (λ (kind : ParamKind). takes_places (kind ∷ params) ≡ true) (sym are.0) (params_scalar params slots are.1 e)
+params_place (param ∷ params) (Index dimension ∷ slots) are e =
+    subst (λ (kind : ParamKind). takes_places (kind ∷ params) ≡ true) (sym are.0) (params_scalar params slots are.1 e)
+params_place (param ∷ params) (Proxy dimension ty ∷ slots) are e = cc
+params_place (param ∷ params) (Region dimension ty ∷ slots) are e = cc
+
+pub place_slots : (object : Object) (function : ℕ) (own : Signature) → TakesPlaces object → slice_get object.signatures function ≡ Some own → takes_places own.slots ≡ true
+place_slots object function own parameters is =
+    subst (λ (s : Signature). takes_places s.slots ≡ true) (get_or_from_slice_get object.signatures function own own is)
+    (parameters function own (slice_get_within object.signatures function own is))
+
 -- a run in the middle, with an instruction of its address
-module _ (object : Object) (function : ℕ) (begun : List ℤ) (turns : ℕ) (instrs : List Instr) (stand : Stand) (stack slots : List ℤ)
-    (running : Running object function begun turns instrs stand stack slots) where
+module _ (object : Object) (function : ℕ) (place : List ℕ) (begun : List ℤ) (turns : ℕ) (instrs : List Instr) (stand : Stand) (stack slots : List ℤ)
+    (running : Running object function place begun turns instrs stand stack slots) where
   abbrev named : Named
   named = record { signatures = object.signatures; function = function; own = running.own }
 
@@ -113,15 +133,32 @@ module _ (object : Object) (function : ℕ) (begun : List ℤ) (turns : ℕ) (in
       (running.sound.types.each stand.at running.point.types running.point.there)
       (ap (λ (is : List Instr). slice_get is stand.at) (sym running.instrs_are) ∙ found)
 
-  pub needs : (instr : Instr) → TakesScalars object → slice_get instrs stand.at ≡ Some instr → (room_of object.functions function).stack ≤ length stack
-      → Needs instr stand.top stack slots
-  needs instr scalars found room =
+  takes : TakesPlaces object → takes_places running.own.params ≡ true
+  takes parameters = params_place running.own.params running.own.slots running.sound.slots (place_slots object function running.own parameters running.own_at)
+
+  -- a field is that of the place
+  field_in : TakesPlaces object → (slot : ℕ) (name : List ℕ) → has_field named slot name ≡ true → IsField place name slot (begun_with object function place begun)
+  field_in parameters slot name field =
+      let is = signature_at-is object function running.own running.own_at in
+      subst (λ (s : Signature). IsField place name slot (arguments_with s.params place (given_to object function begun))) (sym is)
+      (field_there running.own.params place name slot (given_to object function begun) (takes parameters) running.sound.kinds
+      (subst (λ (s : Signature). SuitParams running.own.params (arguments_with s.params place (given_to object function begun))) is running.suits) field)
+
+  pub needs : (instr : Instr) → TakesPlaces object → slice_get instrs stand.at ≡ Some instr → (room_of object.functions function).stack ≤ length stack
+      → Needs instr place stand.top stack slots
+  needs instr parameters found room =
       let at = here instr found in
       let low = deep in
-      needs_met named instr stand.at running.point.types at.left stack slots stand.top
-      (params_scalar running.own.params running.own.slots running.sound.slots (scalar_slots object function running.own scalars running.own_at))
+      needs_met named instr place stand.at running.point.types at.left stack slots stand.top (takes parameters)
+      (λ slot name field. (field_in parameters slot name field).has)
       at.effect running.point.stack running.point.slots
       (λ to led. let upto = at.behind to led in omega arith)
+
+  pub finds : (instr : Instr) → TakesPlaces object → slice_get instrs stand.at ≡ Some instr → FindsPlace instr place (routine_at object function running.code place begun)
+  finds (Field slot name) parameters found =
+      (field_in parameters slot name
+      (left_if_so (has_field named slot name) (Int ∷ running.point.types) (here (Field slot name) found).left (here (Field slot name) found).effect).0).given
+  finds instr parameters found = tt
 
   -- what a call needs
   pub record CallReady (callee : ℕ) (rest : List ℤ) : Type 0 where
@@ -168,12 +205,12 @@ module _ (object : Object) (function : ℕ) (begun : List ℤ) (turns : ℕ) (in
       → next
       ≡ returning (point_at stand stack_then slots_then) (drop (length (signature_at object callee).params) (values_in stack_then stand.top))
       (function_of object callee (map Value (passed object callee stack_then stand.top)) stand.turns)
-      → next_of (routine_at object function running.code begun) instr (point_at stand stack slots) ≡ next
+      → next_of (routine_at object function running.code place begun) instr (point_at stand stack slots) ≡ next
   call_leads sound callee rest ready upto instr is stack_then slots_then same_stack same_slots next led =
       let size = length-values_in stack stand.top in
       let takes = ready.may.takes in
-      ap (λ (i : Instr). next_of (routine_at object function running.code begun) i (point_at stand stack slots)) is
-      ∙ calls-next object sound function callee (omega arith) ready.before (routine_at object function running.code begun) refl (point_at stand stack slots) (omega arith)
+      ap (λ (i : Instr). next_of (routine_at object function running.code place begun) i (point_at stand stack slots)) is
+      ∙ calls-next object sound function callee (omega arith) ready.before (routine_at object function running.code place begun) refl (point_at stand stack slots) (omega arith)
       ∙ ap (λ (xs : List ℤ). returning (point_at stand xs slots) (drop (length (signature_at object callee).params) (values_in xs stand.top))
       (function_of object callee (map Value (passed object callee xs stand.top)) stand.turns)) (sym same_stack)
       ∙ ap (λ (xs : List ℤ). returning (point_at stand stack_then xs) (drop (length (signature_at object callee).params) (values_in stack_then stand.top))

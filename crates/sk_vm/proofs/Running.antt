@@ -1,8 +1,7 @@
 -- Where the run of a function stands in the middle.
-use Rattle.std.proofs.Common.{◌≡◌, ℕ, suc, ◌+◌, ◌*◌, ◌^◌, ◌<◌, List, length, map, ℤ, Option, Some, Result, IsSomeAnd, slice_get, sym, ap, subst, ◌∙◌}
+use Rattle.std.proofs.Common.{◌≡◌, ℕ, suc, ◌+◌, ◌*◌, ◌^◌, ◌<◌, List, length, ℤ, Option, Some, Result, IsSomeAnd, slice_get, sym, ap, subst, ◌∙◌}
 use Rattle.sk_base.specs.declared.number.Trap.{Trap}
 use Rattle.sk_base.specs.declared.number.Ty.{Ty}
-use Rattle.sk_meaning.specs.Evaluation.{Argument, Value}
 use Rattle.sk_isa.specs.declared.code.Code.{Code}
 use Rattle.sk_isa.specs.declared.code.Instr.{Instr}
 use Rattle.sk_isa.specs.declared.object.Object.{Object}
@@ -15,31 +14,28 @@ use Rattle.sk_isa_laws.specs.Steps.{IsFineNext, IsFinePoint, IsFineStep}
 use Rattle.sk_isa_laws.proofs.Runs.{measure_falls, outcome-next}
 use Rattle.sk_vm.specs.declared.stack.Stand.{Stand}
 use Rattle.sk_vm.specs.Points.{point_at}
-use Rattle.sk_vm.specs.Rooms.{given_to}
+use Rattle.sk_vm.specs.Rooms.{begun_with}
 
--- the arguments with which a function was begun
-abbrev pub begun_with : Object → (function : ℕ) → (begun : List ℤ) → List Argument
-begun_with object function begun = map Value (given_to object function begun)
-
-abbrev pub routine_at : Object → (function : ℕ) → Code → (begun : List ℤ) → Routine
-routine_at object function code begun =
-    routine_of (callees_below object.signatures object.functions function) code (begun_with object function begun)
+-- what stays the same in the run of a function
+abbrev pub routine_at : Object → (function : ℕ) → Code → (place : List ℕ) → (begun : List ℤ) → Routine
+routine_at object function code place begun =
+    routine_of (callees_below object.signatures object.functions function) code (begun_with object function place begun)
 
 -- The run stands at a fine point, and what it comes to from there is the function's value.
-pub record Running (object : Object) (function : ℕ) (begun : List ℤ) (turns : ℕ) (instrs : List Instr) (stand : Stand) (stack slots : List ℤ) : Type 0 where
+pub record Running (object : Object) (function : ℕ) (place : List ℕ) (begun : List ℤ) (turns : ℕ) (instrs : List Instr) (stand : Stand) (stack slots : List ℤ) : Type 0 where
   pub code : Code
   pub own : Signature
   pub code_at : slice_get object.functions function ≡ Some code
   pub own_at : slice_get object.signatures function ≡ Some own
   pub instrs_are : instrs ≡ code.instrs
   pub sound : IsSoundCode object.signatures function own code
-  pub suits : SuitParams own.params (begun_with object function begun)
+  pub suits : SuitParams own.params (begun_with object function place begun)
   pub fine : (point : Point) → IsFinePoint own sound.types.chosen point
-      → IsSomeAnd (slice_get code.instrs point.at) (λ instr. IsFineNext own sound.types.chosen instr point (next_of (routine_at object function code begun) instr point))
+      → IsSomeAnd (slice_get code.instrs point.at) (λ instr. IsFineNext own sound.types.chosen instr point (next_of (routine_at object function code place begun) instr point))
   pub point : IsFinePoint own sound.types.chosen (point_at stand stack slots)
   pub comes_to : (steps : ℕ) (result : Result (ℤ × ℕ) Trap)
-      → outcome_of (routine_at object function code begun) steps (point_at stand stack slots) ≡ Ended result
-      → function_of object function (begun_with object function begun) turns ≡ result
+      → outcome_of (routine_at object function code place begun) steps (point_at stand stack slots) ≡ Ended result
+      → function_of object function (begun_with object function place begun) turns ≡ result
 
 -- what a step leads to, where it is known
 step_fine : (own : Signature) (chosen : ℕ → Option (List Ty)) (routine : Routine) (instr found : Instr) (point : Point) (next : Next) (at : Option Instr)
@@ -50,14 +46,14 @@ step_fine own chosen routine instr found point next at is fine leads =
     (subst (λ (o : Option Instr). IsSomeAnd o (λ instr. IsFineNext own chosen instr point (next_of routine instr point))) is fine)
 
 -- A step that goes on
-pub goes_on : (object : Object) (function : ℕ) (begun : List ℤ) (turns : ℕ) (instrs : List Instr) (stand next : Stand) (stack after slots slots_after : List ℤ) (instr : Instr)
+pub goes_on : (object : Object) (function : ℕ) (place : List ℕ) (begun : List ℤ) (turns : ℕ) (instrs : List Instr) (stand next : Stand) (stack after slots slots_after : List ℤ) (instr : Instr)
     → slice_get instrs stand.at ≡ Some instr
-    → (running : Running object function begun turns instrs stand stack slots)
-    → next_of (routine_at object function running.code begun) instr (point_at stand stack slots) ≡ Goes (point_at next after slots_after)
-    → Running object function begun turns instrs next after slots_after
+    → (running : Running object function place begun turns instrs stand stack slots)
+    → next_of (routine_at object function running.code place begun) instr (point_at stand stack slots) ≡ Goes (point_at next after slots_after)
+    → Running object function place begun turns instrs next after slots_after
     × (next.turns * 2 ^ length instrs + rank instrs next.at < stand.turns * 2 ^ length instrs + rank instrs stand.at)
-goes_on object function begun turns instrs stand next stack after slots slots_after instr found running leads =
-    let routine = routine_at object function running.code begun in
+goes_on object function place begun turns instrs stand next stack after slots slots_after instr found running leads =
+    let routine = routine_at object function running.code place begun in
     let at : slice_get running.code.instrs stand.at ≡ Some instr = ap (λ (is : List Instr). slice_get is stand.at) (sym running.instrs_are) ∙ found in
     let step : IsFineStep running.own running.sound.types.chosen instr (point_at stand stack slots) (point_at next after slots_after) =
     step_fine running.own running.sound.types.chosen routine instr instr (point_at stand stack slots) (Goes (point_at next after slots_after))
@@ -80,13 +76,13 @@ goes_on object function begun turns instrs stand next stack after slots slots_af
     )
 
 -- a step that ends the run
-pub ends_with : (object : Object) (function : ℕ) (begun : List ℤ) (turns : ℕ) (instrs : List Instr) (stand : Stand) (stack slots : List ℤ) (instr : Instr) (result : Result (ℤ × ℕ) Trap)
+pub ends_with : (object : Object) (function : ℕ) (place : List ℕ) (begun : List ℤ) (turns : ℕ) (instrs : List Instr) (stand : Stand) (stack slots : List ℤ) (instr : Instr) (result : Result (ℤ × ℕ) Trap)
     → slice_get instrs stand.at ≡ Some instr
-    → (running : Running object function begun turns instrs stand stack slots)
-    → next_of (routine_at object function running.code begun) instr (point_at stand stack slots) ≡ Ends result
-    → function_of object function (begun_with object function begun) turns ≡ result
-ends_with object function begun turns instrs stand stack slots instr result found running leads =
-    let routine = routine_at object function running.code begun in
+    → (running : Running object function place begun turns instrs stand stack slots)
+    → next_of (routine_at object function running.code place begun) instr (point_at stand stack slots) ≡ Ends result
+    → function_of object function (begun_with object function place begun) turns ≡ result
+ends_with object function place begun turns instrs stand stack slots instr result found running leads =
+    let routine = routine_at object function running.code place begun in
     let at : slice_get running.code.instrs stand.at ≡ Some instr = ap (λ (is : List Instr). slice_get is stand.at) (sym running.instrs_are) ∙ found in
     running.comes_to 1 result
     (outcome-next routine 0 (point_at stand stack slots) instr at ∙ ap (λ (n : Next). followed n (outcome_of routine 0)) leads)

@@ -6,6 +6,7 @@ use Rattle.sk_isa.specs.declared.object.Object.{Object}
 use Rattle.sk_tree.specs.InstanceSettings.{default_settings}
 use Rattle.sk_tree.specs.Parameters.{index_dimension}
 use Rattle.sk_vm.specs.Entries.{MayEnter}
+use Rattle.sk_vm.specs.Places.{ReadsPairs}
 use Rattle.sk_vm.specs.Rooms.{room_of}
 use Rattle.sk_vm.specs.declared.rooms.Room.{Room}
 
@@ -18,10 +19,12 @@ pub record Framed : Type 0 where
   pub stack : ℕ
   pub slots : ℕ
 
--- The frame's function may be entered, with that index parameter, and there is room for its calls.
+-- The frame's function may be entered, with that index parameter, it may be read at pairs of places where it is, and there is
+-- room for its calls.
 pub record HasRoom (object : Object) (frame : Framed) : Type 0 where
   pub entered : MayEnter (record { object = object; function = frame.function })
   pub index : frame.index ≡ index_dimension (signature_at object frame.function).params
+  pub pairs : ReadsPairs frame.reading.pairs frame.reading.elements (signature_at object frame.function).params
   pub stack : (room_of object.functions frame.function).stack ≤ frame.stack
   pub slots : (room_of object.functions frame.function).slots ≤ frame.slots
 
@@ -38,6 +41,11 @@ reading_by elements pairs = record { elements = elements; pairs = pairs; setting
 abbrev pub CountsPairs : (index : Option ℕ) → Type 0
 CountsPairs None = Unit {0}
 CountsPairs (Some dimension) = dimension ≡ 2
+
+-- no index parameter, or one of one dimension, which is not a pair
+abbrev pub CountsPlaces : (index : Option ℕ) → (pairs : Bool) → Type 0
+CountsPlaces None pairs = Unit {0}
+CountsPlaces (Some dimension) pairs = (dimension ≡ 1) × (pairs ≡ false)
 
 -- At pairs of places a function reads two elements, and its index parameter, if it has one, is a pair.
 abbrev pub MayRead : (index : Option ℕ) → (elements : ℕ) → (pairs : Bool) → Type 0

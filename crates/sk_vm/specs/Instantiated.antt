@@ -5,10 +5,11 @@ use Rattle.sk_kernel.specs.Instances.{instance_meaning, reading_of}
 use Rattle.sk_tree.specs.InstanceSettings.{default_settings}
 use Rattle.sk_tree.specs.Skeletons.{operator_place}
 use Rattle.sk_kernel.specs.Kernels.{Meaning, DependsOnReads, NeverTraps, NeverTrapsJoining}
-use Rattle.sk_isa.specs.SoundObjects.{HasSoundFunctions, IsSoundPlan, TakesScalars}
+use Rattle.sk_isa.specs.SoundObjects.{HasSoundFunctions, IsSoundPlan}
 use Rattle.sk_isa.specs.declared.object.Object.{Object}
 use Rattle.sk_isa.specs.declared.object.Plan.{Plan}
 use Rattle.sk_vm.specs.Frames.{Framed, HasRoom, Holds}
+use Rattle.sk_vm.specs.Places.{TakesPlaces}
 use Rattle.sk_vm.specs.Rooms.{room_of}
 
 -- Neither the function nor the operator ever traps where the meaning is safe, and the function depends on nothing but what
@@ -32,10 +33,10 @@ pub record Serves (instance : Instantiated) (frame : Framed) : Type 0 where
   pub room : (place : ℕ) → place < length instance.plan.functions
       → Holds (room_of instance.object.functions (function_at instance.plan place)) frame
 
--- an instance of a sound program whose functions take scalars alone
+-- an instance of a sound program whose functions take no region and no container
 pub record IsInstance (object : Object) (plan : Plan) : Type 0 where
   pub sound : HasSoundFunctions object
-  pub scalars : TakesScalars object
+  pub parameters : TakesPlaces object
   pub fits : IsSoundPlan object plan
 
 -- a frame is turned to the first function of an instance, which reads its parameters as the instance says

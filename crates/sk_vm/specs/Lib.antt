@@ -5,5 +5,6 @@ pub mod Frames
 pub mod Instantiated
 pub mod Lent
 pub mod Needs
+pub mod Places
 pub mod Points
 pub mod Rooms

@@ -1,12 +1,13 @@
 -- Runs whose stack lies in a buffer.
-use Rattle.std.specs.Prelude.{◌≡◌, ℕ, zero, suc, List, [], ◌∷◌, ℤ, pos, Result, Ok, Err, slice_index_or}
+use Rattle.std.specs.Prelude.{◌≡◌, ℕ, zero, suc, List, [], ◌∷◌, ℤ, pos, Some, Result, Ok, Err, slice_get, slice_index_or}
 use Rattle.sk_base.specs.declared.number.Op.{Op}
 use Rattle.sk_base.specs.declared.number.Ty.{Ty}
 use Rattle.sk_base.specs.declared.number.Trap.{Trap}
 use Rattle.sk_isa.specs.Coded.{Point, Routine, Next, next_of}
 use Rattle.sk_isa.specs.Configurations.{Goes, Ends}
 use Rattle.sk_isa.specs.declared.code.Instr.{Instr}
-use Rattle.sk_isa.specs.declared.code.Instr.TheVariants.{Call, Binary}
+use Rattle.sk_isa.specs.declared.code.Instr.TheVariants.{Field, Call, Binary}
+use Rattle.sk_meaning.specs.Evaluation.{Place}
 use Rattle.sk_vm.specs.declared.stack.Stand.{Stand}
 use Rattle.sk_vm.specs.declared.step.Lead.{Lead}
 use Rattle.sk_vm.specs.declared.step.Lead.TheVariants as lead
@@ -21,16 +22,21 @@ abbrev pub point_at : Stand → (stack slots : List ℤ) → Point
 point_at stand stack slots =
     record { at = stand.at; stack = values_in stack stand.top; slots = slots; kept = stand.turns }
 
--- An instruction leads from a point to where it is said to lead, whatever functions and arguments there are; a call is left
--- to be done.
-abbrev pub LeadsTo : Instr → Point → Lead → (stack slots : List ℤ) → Type 0
-LeadsTo instr before (lead.Goes stand) stack slots =
-    (routine : Routine) → next_of routine instr before ≡ Goes (point_at stand stack slots)
-LeadsTo instr before (lead.Ends value turns) stack slots =
-    (routine : Routine) → next_of routine instr before ≡ Ends (Ok (value, turns))
-LeadsTo instr before (lead.Traps trap) stack slots =
-    (routine : Routine) → next_of routine instr before ≡ Ends (Err trap)
-LeadsTo instr before (lead.Calls function) stack slots = instr ≡ Call function
+-- where an instruction reads a field, the function is given this place
+abbrev pub FindsPlace : Instr → (place : List ℕ) → Routine → Type 0
+FindsPlace (Field slot name) place routine = slice_get routine.arguments slot ≡ Some (Place place)
+FindsPlace instr place routine = Unit {0}
+
+-- An instruction leads from a point to where it is said to lead, whatever functions and arguments there are, but for the place
+-- whose field it reads; a call is left to be done.
+abbrev pub LeadsTo : Instr → (place : List ℕ) → Point → Lead → (stack slots : List ℤ) → Type 0
+LeadsTo instr place before (lead.Goes stand) stack slots =
+    (routine : Routine) → FindsPlace instr place routine → next_of routine instr before ≡ Goes (point_at stand stack slots)
+LeadsTo instr place before (lead.Ends value turns) stack slots =
+    (routine : Routine) → FindsPlace instr place routine → next_of routine instr before ≡ Ends (Ok (value, turns))
+LeadsTo instr place before (lead.Traps trap) stack slots =
+    (routine : Routine) → FindsPlace instr place routine → next_of routine instr before ≡ Ends (Err trap)
+LeadsTo instr place before (lead.Calls function) stack slots = instr ≡ Call function
 
 -- an instruction that calls a function leaves the stack and the slots as they are
 abbrev pub KeepsForCall : Lead → (stack_before stack slots_before slots : List ℤ) → Type 0
@@ -39,7 +45,8 @@ KeepsForCall lead stack_before stack slots_before slots = Unit {0}
 
 -- an operator's value stands in place of its operands, or there is its trap
 abbrev pub Combines : Op → Ty → Stand → (before after : List ℤ) → Lead → Type 0
-Combines op ty stand before after result = (slots : List ℤ) → LeadsTo (Binary op ty) (point_at stand before slots) result after slots
+Combines op ty stand before after result =
+    (place : List ℕ) (slots : List ℤ) → LeadsTo (Binary op ty) place (point_at stand before slots) result after slots
 
 -- where a call leads that went well, or its trap
 abbrev pub led_to : Result Stand Trap → (stack slots : List ℤ) → Next

@@ -1,13 +1,14 @@
 -- Room for the calls of functions.
 use Rattle.std.specs.Prelude.{◌≡◌, ℕ, zero, suc, ◌+◌, ◌-◌, max, List, [], ◌∷◌, ◌++◌, length, take, drop, map, replicate, ℤ, pos, Some, None, slice_get, slice_index_or}
-use Rattle.sk_meaning.specs.Evaluation.{Value}
+use Rattle.sk_meaning.specs.Evaluation.{Argument, number_in}
 use Rattle.sk_isa.specs.Objects.{signature_at}
-use Rattle.sk_isa.specs.SoundObjects.{HasSoundFunctions, TakesScalars}
+use Rattle.sk_isa.specs.SoundObjects.{HasSoundFunctions}
 use Rattle.sk_isa.specs.Soundness.{SuitParams}
 use Rattle.sk_isa.specs.declared.code.Code.{Code}
 use Rattle.sk_isa.specs.declared.code.Instr.{Instr}
 use Rattle.sk_isa.specs.declared.code.Instr.TheVariants.{Call}
 use Rattle.sk_isa.specs.declared.object.Object.{Object}
+use Rattle.sk_vm.specs.Places.{TakesPlaces, arguments_with}
 use Rattle.sk_vm.specs.declared.rooms.Room.{Room}
 
 -- the instructions of a function
@@ -54,19 +55,25 @@ rooms_below codes (suc fewer) = rooms_below codes fewer ++ room_at (rooms_below 
 unfoldable pub room_of : List Code → (function : ℕ) → Room
 room_of codes function = room_at (rooms_below codes function) codes function
 
--- The program is sound, its functions take scalars alone, and this room is the largest of any of them.
+-- The program is sound, its functions take no region and no container, and this room is the largest of any of them.
 pub record AreRooms (object : Object) (room : Room) : Type 0 where
   pub sound : HasSoundFunctions object
-  pub scalars : TakesScalars object
+  pub parameters : TakesPlaces object
   pub is_largest : room ≡ largest (rooms_below object.functions (length object.functions))
 
 -- the numbers that are given to a function stand in its first slots
 abbrev pub given_to : Object → (function : ℕ) → (slots : List ℤ) → List ℤ
 given_to object function slots = take (length (signature_at object function).params) slots
 
--- The slots of a function begin with numbers of its parameters' types, and every other slot has 0.
-pub record Begins (object : Object) (function : ℕ) (slots : List ℤ) : Type 0 where
+-- the arguments of a function whose slots begin with these numbers, and which is given a place if it has an index
+abbrev pub begun_with : Object → (function : ℕ) → (place : List ℕ) → (slots : List ℤ) → List Argument
+begun_with object function place slots =
+    arguments_with (signature_at object function).params place (given_to object function slots)
+
+-- The slots of a function begin with numbers of its parameters' types, an index has 0, and every other slot has 0.
+pub record Begins (object : Object) (function : ℕ) (place : List ℕ) (slots : List ℤ) : Type 0 where
   pub count : length slots ≡ slots_at object.functions function
-  pub suited : SuitParams (signature_at object function).params (map Value (given_to object function slots))
+  pub suited : SuitParams (signature_at object function).params (begun_with object function place slots)
+  pub numbers : map number_in (begun_with object function place slots) ≡ given_to object function slots
   pub others : drop (length (signature_at object function).params) slots
       ≡ replicate (length slots - length (signature_at object function).params) (pos 0)

@@ -26,13 +26,14 @@ impl<'a> Model for Coded<'a> {
 
 impl<'a> Coded<'a> {
     ghost use Rattle.std.specs.Prelude.{◌≡◌, ◌<◌, length, IfOk};
-    ghost use Rattle.sk_isa.specs.SoundObjects.{HasSoundFunctions, TakesScalars};
+    ghost use Rattle.sk_isa.specs.SoundObjects.{HasSoundFunctions};
     ghost use Rattle.sk_vm.specs.Instantiated.{IsOf};
+    ghost use Rattle.sk_vm.specs.Places.{TakesPlaces};
 
     /// An instance by its number, with room for all its calls.
     pub fn new(alloc: Global, object: &'a Object, instance: u32) -> Result<Coded<'a>, AllocError>
         requires sound { HasSoundFunctions object.now }
-        requires scalars { TakesScalars object.now }
+        requires parameters { TakesPlaces object.now }
         requires there { instance < length object.now.instances }
         ensures { IfOk result (IsOf object.now instance) }
     {

@@ -6,7 +6,7 @@ ghost use Rattle.sk_vm.specs.Rooms.{instrs_at, slots_at};
 use sk_isa::{Instr, Object};
 use std::marker::Model;
 
-/// A function of a sound program whose functions take scalars alone.
+/// A function of a sound program whose functions take no region and no container.
 #[derive(Drop)]
 pub struct Entry<'a> {
     pub object: &'a Object,

@@ -1,19 +1,21 @@
-ghost use Rattle.std.specs.Prelude.{◌≡◌, ℕ, ℤ, All, ◌<◌, ◌≤◌, ◌+◌, ◌^◌, suc, true, pos, Ok, List, [], ◌∷◌, length, slice_index_or, false, IfErr, IfOk, IsOk, OnErr, OnOk};
+ghost use Rattle.std.specs.Prelude.{◌≡◌, ℕ, ℤ, All, ◌<◌, ◌≤◌, ◌+◌, ◌^◌, suc, true, pos, Ok, List, [], ◌∷◌, length, slice_index_or, false, None, IfErr, IfOk, IsOk, OnErr, OnOk};
 ghost use Rattle.sk_base.specs.Arithmetic.{InRange};
 ghost use Rattle.sk_kernel.specs.Instances.{function_meaning};
 ghost use Rattle.sk_isa.specs.Objects.{invoked, signature_at};
 ghost use Rattle.sk_kernel.specs.Kernels.{Suits, SuitsRun, Agree, AgreeRun, AreValues, given_by, run_value};
-ghost use Rattle.sk_isa.specs.SoundObjects.{HasSoundFunctions, TakesScalars};
+ghost use Rattle.sk_isa.specs.SoundObjects.{HasSoundFunctions};
 ghost use Rattle.sk_isa.specs.Soundness.{SuitParams};
 ghost use Rattle.sk_meaning.specs.Evaluation.{Value};
 ghost use Rattle.sk_tree.specs.Parameters.{index_dimension};
-ghost use Rattle.sk_vm.specs.Frames.{HasRoom, Holds, IsUnread, MayRead, reading_by};
+ghost use Rattle.sk_vm.specs.Frames.{CountsPlaces, HasRoom, Holds, IsUnread, MayRead, reading_by};
 ghost use Rattle.sk_vm.specs.Lent.{ArePart, ArePartOfType};
+ghost use Rattle.sk_vm.specs.Places.{TakesPlaces};
 ghost use Rattle.sk_vm.specs.Rooms.{AreRooms};
 
 use crate::entry::Entry;
 use crate::lent::Lent;
 use crate::parts::{index_of, place_behind};
+use crate::place::count_of;
 use crate::rooms::{Room, Rooms, height_of, room_of};
 use crate::start::{Reading, start, start_with};
 use sk_base::{Cell, Trap};
@@ -57,10 +59,10 @@ impl Frame {
     /// A frame for a function, with room for all calls below it. All its parameters are uniform arguments.
     ///
     /// It takes as much room as the function and its calls may have in use at a time, and where it is evaluated for blocks of
-    /// places, a row of a block's length for each level but the first.
+    /// places, a row of a block's length for each level but the first, of values on the stack and of locals.
     pub fn new(alloc: Global, object: &Object, function: u32) -> Result<Frame, AllocError>
         requires sound { HasSoundFunctions object.now }
-        requires scalars { TakesScalars object.now }
+        requires parameters { TakesPlaces object.now }
         requires there { function < length object.now.functions }
         ensures made { IfOk result (IsUnread function) }
         ensures room { IfOk result (HasRoom object.now) }
@@ -150,8 +152,8 @@ impl Frame {
         self.straight = straight;
     }
 
-    /// Sets how parameters are read: the first `n` from operands 0 to n - 1, each at the place, and the others as uniform
-    /// arguments. With `pairs` operand 1 is read at the pair, and an index is the place and the pair.
+    /// Sets how parameters are read: the first `n` scalars from operands 0 to n - 1, each at the place, and the others as
+    /// uniform arguments. With `pairs` operand 1 is read at the pair, and an index is the place and the pair.
     pub fn elements(&mut self, n: u32, pairs: bool)
         requires { MayRead self.old.index n pairs }
         ensures { self.new ≡ record self.old { reading = reading_by n pairs } }
@@ -171,6 +173,7 @@ impl Frame {
         ensures same { self.new ≡ self.old }
     {
         let reading = Reading {
+            indices: count_of(self.index),
             elements: self.elements,
             pairs: self.pairs,
         };
@@ -208,14 +211,24 @@ impl Frame {
         ensures count { length out.new ≡ length out.old }
         ensures same { self.new ≡ self.old }
     {
-        if self.straight {
+        if self.straight && self.counts_places() {
             self.run_blocks(object, source, at, out)
         } else {
             self.run_places(object, source, at, out)
         }
     }
 
-    /// The same, a block of places at a time.
+    /// Whether the function has no index parameter, or one of one dimension, which is not a pair.
+    fn counts_places(&self) -> bool
+        ensures { result ≡ true → CountsPlaces self.now.index self.now.reading.pairs }
+    {
+        match self.index {
+            Some(dimension) => dimension == 1 && !self.pairs,
+            None => true,
+        }
+    }
+
+    /// The same, a block of places at a time, where an index is the place alone.
     fn run_blocks<D: Data>(
         &mut self,
         object: &Object,
@@ -224,6 +237,7 @@ impl Frame {
         out: &mut [Cell],
     ) -> Result<(), RunTrap>
         requires room { HasRoom object.now self.old }
+        requires counts { CountsPlaces self.old.index self.old.reading.pairs }
         requires suits { SuitsRun (function_meaning object.now self.old.function self.old.reading) (D.means source.now) at.place at.pair (length out.old) }
         requires places { at.place + length out.old < 2 ^ 32 }
         requires pairs { at.pair + length out.old < 2 ^ 32 }
@@ -255,6 +269,7 @@ impl Frame {
     ) -> Result<(), RunTrap>
         requires within { done + count ≤ length out.old }
         requires room { HasRoom object.now self.old }
+        requires counts { CountsPlaces self.old.index self.old.reading.pairs }
         requires suits { SuitsRun (function_meaning object.now self.old.function self.old.reading) (D.means source.now) at.place at.pair (length out.old) }
         requires places { at.place + length out.old < 2 ^ 32 }
         requires pairs { at.pair + length out.old < 2 ^ 32 }
@@ -287,6 +302,7 @@ impl Frame {
         out: &mut [Cell],
     ) -> Result<(), RunTrap>
         requires room { HasRoom object.now self.old }
+        requires counts { CountsPlaces self.old.index self.old.reading.pairs }
         requires suits { SuitsRun (function_meaning object.now self.old.function self.old.reading) (D.means source.now) at.place at.pair (length out.old) }
         requires places { at.place + length out.old < 2 ^ 32 }
         requires pairs { at.pair + length out.old < 2 ^ 32 }
@@ -313,6 +329,7 @@ impl Frame {
         out: &mut [Cell],
     ) -> bool
         requires room { HasRoom object.now self.old }
+        requires counts { CountsPlaces self.old.index self.old.reading.pairs }
         requires suits { SuitsRun (function_meaning object.now self.old.function self.old.reading) (D.means source.now) at.place at.pair (length out.old) }
         requires places { at.place + length out.old < 2 ^ 32 }
         requires pairs { at.pair + length out.old < 2 ^ 32 }
@@ -327,14 +344,17 @@ impl Frame {
             object,
             function: self.function,
         };
+        let indices = count_of(self.index);
         let lent = Lent {
             source,
+            indices: indices as u32,
             elements: self.elements,
             pairs: self.pairs,
             place: at.place,
             pair: at.pair,
             places: out.len() as u32,
-            params: entry.param_count() as u32,
+            scalars: (entry.param_count() - indices) as u32,
+            slots: entry.slot_count() - indices,
         };
         evaluate(entry.instrs(), &lent, out, &mut self.levels, &mut self.rows)
     }

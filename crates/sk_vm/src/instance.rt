@@ -39,14 +39,15 @@ impl<'a> Instance<'a> {
     ghost use Rattle.std.specs.Prelude.{◌≡◌, ℕ, ℤ, ◌<◌, ◌≤◌, ◌+◌, ◌^◌, length, All, IfOk, IsSome};
     ghost use Rattle.sk_base.specs.Arithmetic.{InRange};
     ghost use Rattle.sk_isa.specs.Objects.{function_at};
-    ghost use Rattle.sk_isa.specs.SoundObjects.{HasSoundFunctions, TakesScalars};
+    ghost use Rattle.sk_isa.specs.SoundObjects.{HasSoundFunctions};
     ghost use Rattle.sk_kernel.specs.Kernels.{Suits, SuitsRun, Agree, AgreeRun, AreJoined, AreValues, IsJoined, given_by, run_value};
     ghost use Rattle.sk_vm.specs.Instantiated.{IsAtFirst, IsAtOperator, IsOf, Serves, meaning_of};
+    ghost use Rattle.sk_vm.specs.Places.{TakesPlaces};
 
     /// An instance by its number.
     pub fn of(object: &'a Object, number: u32) -> Instance<'a>
         requires sound { HasSoundFunctions object.now }
-        requires scalars { TakesScalars object.now }
+        requires parameters { TakesPlaces object.now }
         requires there { number < length object.now.instances }
         ensures { IsOf object.now number result }
     {

@@ -6,6 +6,7 @@
 //! - `frame`: room to run a function, made once and used for every run.
 //! - `lent`: parameters at places one behind another, for runs of blocks of places.
 //! - `entry`: a function that may be run.
+//! - `place`: the coordinates of the place that an index is given.
 //! - `start`: a function with its arguments.
 //! - `run`: the run of a function from its first address to its end.
 //! - `step`: what one instruction does.
@@ -22,6 +23,7 @@ mod frame;
 mod instance;
 mod lent;
 mod parts;
+mod place;
 mod rooms;
 mod run;
 mod sharing;

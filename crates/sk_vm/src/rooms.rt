@@ -1,8 +1,9 @@
 ghost use Rattle.std.specs.Prelude.{◌≡◌, ◌<◌, ◌≤◌, length, map, IfOk};
-ghost use Rattle.sk_isa.specs.SoundObjects.{HasSoundFunctions, TakesScalars};
+ghost use Rattle.sk_isa.specs.SoundObjects.{HasSoundFunctions};
+ghost use Rattle.sk_vm.specs.Places.{TakesPlaces};
 ghost use Rattle.sk_vm.specs.Rooms.{AreRooms, called_room, larger, largest, no_room, room_after, room_of, rooms_below};
 
-use sk_columns::is_straight;
+use sk_columns::{is_straight, stored_count};
 use sk_isa::{Code, Instr, Object};
 use std::alloc::{AllocError, Global};
 use std::marker::Model;
@@ -57,7 +58,7 @@ impl Rooms {
     /// The rooms of a program's functions, in time and memory linear in its code.
     pub fn of(alloc: Global, object: &Object) -> Result<Rooms, AllocError>
         requires sound { HasSoundFunctions object.now }
-        requires scalars { TakesScalars object.now }
+        requires parameters { TakesPlaces object.now }
         ensures { IfOk result (AreRooms object.now) }
     {
         let codes = object.functions.as_slice();
@@ -185,8 +186,8 @@ fn called_room(before: &[Room], instr: &Instr) -> Room
 /// The most levels of a function that is evaluated for a block of places.
 const MOST_LEVELS: usize = 64;
 
-/// How many levels a function has that is evaluated for a block of places: as many as values may stand on its stack, and two
-/// more for each choice. Every other function has none.
+/// How many levels a function has that is evaluated for a block of places: as many as values may stand on its stack, two more
+/// for each choice, and one for each local. Every other function has none.
 pub fn height_of(code: &Code) -> usize
     ensures { result ≤ 64 }
 {
@@ -194,7 +195,7 @@ pub fn height_of(code: &Code) -> usize
     if !is_straight(instrs) {
         return 0;
     }
-    let mut height = code.depth as usize;
+    let mut height = (code.depth as usize).saturating_add(stored_count(instrs));
     for instr in instrs {
         if let Instr::Zero(_) = instr {
             height = height.saturating_add(2);

@@ -5,7 +5,7 @@ ghost use Rattle.sk_isa.specs.Objects.{signature_at};
 ghost use Rattle.sk_isa.specs.Soundness.{SuitParams};
 ghost use Rattle.sk_meaning.specs.Evaluation.{Value};
 ghost use Rattle.sk_vm.specs.Calls.{HasSpace, MayCall};
-ghost use Rattle.sk_vm.specs.Rooms.{given_to, Begins};
+ghost use Rattle.sk_vm.specs.Rooms.{Begins, begun_with};
 ghost use Rattle.sk_vm.specs.Points.{values_in, point_at, led_to};
 
 use crate::entry::Entry;
@@ -16,18 +16,19 @@ use sk_base::{Cell, Trap};
 
 /// Runs a function whose arguments stand in its slots, and gives its value beside the turns that are then left.
 ///
-/// The values of the calls below stand in `stack` and in `rest`.
+/// The values of the calls below stand in `stack` and in `rest`, and `place` has the coordinates that its index is given.
 #[cycle(run)]
 pub fn run_code(
     entry: &Entry<'_>,
+    place: &[u32],
     stack: &mut [Cell],
     slots: &mut [Cell],
     rest: &mut [Cell],
     turns: u32,
 ) -> Result<(Cell, u32), Trap>
-    requires begins { Begins entry.now.object entry.now.function slots.old }
+    requires begins { Begins entry.now.object entry.now.function place.now slots.old }
     requires space { HasSpace entry.now stack.old (length slots.old + length rest.old) }
-    ensures { result ≡ function_of entry.now.object entry.now.function (map Value (given_to entry.now.object entry.now.function slots.old)) turns }
+    ensures { result ≡ function_of entry.now.object entry.now.function (begun_with entry.now.object entry.now.function place.now slots.old) turns }
 {
     let instrs = entry.instrs();
     let mut stand = Stand {
@@ -36,11 +37,11 @@ pub fn run_code(
         turns,
     };
     loop {
-        match step(instr_at(instrs, stand.at), stand, stack, slots) {
+        match step(instr_at(instrs, stand.at), place, stand, stack, slots) {
             Lead::Goes(next) => stand = next,
             Lead::Ends(value, left) => return Ok((value, left)),
             Lead::Traps(trap) => return Err(trap),
-            Lead::Calls(callee) => match called(&entry.of(callee), stand, stack, rest) {
+            Lead::Calls(callee) => match called(&entry.of(callee), place, stand, stack, rest) {
                 Ok(next) => stand = next,
                 Err(trap) => return Err(trap),
             },
@@ -48,10 +49,12 @@ pub fn run_code(
     }
 }
 
-/// Calls a function with the topmost values, and puts its value in their place.
+/// Calls a function with the topmost values, and puts its value where they stood. It has no index, so the caller's place is
+/// nothing to it.
 #[cycle(run)]
 fn called(
     callee: &Entry<'_>,
+    place: &[u32],
     stand: Stand,
     stack: &mut [Cell],
     rest: &mut [Cell],
@@ -68,7 +71,7 @@ fn called(
     let (slots, below) = rest.split_at_mut(callee.slot_count());
     let (_, free) = stack.split_at_mut(base);
     enter(&free[..takes], slots);
-    match run_code(callee, free, slots, below, stand.turns) {
+    match run_code(callee, place, free, slots, below, stand.turns) {
         Ok((value, turns)) => {
             free[0] = value;
             Ok(Stand {

@@ -4,6 +4,7 @@ ghost use Rattle.sk_meaning.specs.Expressions.{holds};
 ghost use Rattle.sk_vm.specs.Needs.{Needs};
 ghost use Rattle.sk_vm.specs.Points.{values_in, point_at, LeadsTo, KeepsForCall, Combines};
 
+use crate::place::field;
 use crate::stack::{Stand, last, put};
 use sk_base::{Cell, Op, Trap, Ty, binary, convert};
 use sk_isa::Instr;
@@ -20,13 +21,19 @@ pub enum Lead {
     Traps(Trap),
 }
 
-/// Executes an instruction of a function, but for a call.
+/// Executes an instruction of a function, but for a call. `place` has the coordinates that the function's index is given.
 #[inline]
-pub fn step(instr: &Instr, stand: Stand, stack: &mut [Cell], slots: &mut [Cell]) -> Lead
+pub fn step(
+    instr: &Instr,
+    place: &[u32],
+    stand: Stand,
+    stack: &mut [Cell],
+    slots: &mut [Cell],
+) -> Lead
     requires address { stand.at + 1 < 2 ^ 64 }
     requires inside { stand.top ≤ length stack.old }
-    requires needs { Needs instr.now stand.top stack.old slots.old }
-    ensures leads { LeadsTo instr.now (point_at stand stack.old slots.old) result stack.new slots.new }
+    requires needs { Needs instr.now place.now stand.top stack.old slots.old }
+    ensures leads { LeadsTo instr.now place.now (point_at stand stack.old slots.old) result stack.new slots.new }
     ensures kept { KeepsForCall result stack.old stack.new slots.old slots.new }
 {
     match instr {
@@ -34,6 +41,7 @@ pub fn step(instr: &Instr, stand: Stand, stack: &mut [Cell], slots: &mut [Cell])
         Instr::Pop => Lead::Goes(stand.past(stand.top - 1)),
         Instr::Load(slot) => pushed(slots[*slot as usize], stand, stack),
         Instr::Store(slot) => stored(*slot, stand, stack, slots),
+        Instr::Field(_, name) => pushed(field(place, name.as_bytes()), stand, stack),
         Instr::Neg(ty) => {
             let value = last(stack, stand.top);
             replaced(negated(*ty, value), stand, stack)
@@ -154,7 +162,7 @@ fn tested(to: u32, stand: Stand, stack: &[Cell]) -> Lead
 #[inline]
 fn turned(stand: Stand) -> Lead
     requires address { stand.at + 1 < 2 ^ 64 }
-    ensures { (stack slots : List ℤ) → LeadsTo Instr.Turn (point_at stand stack slots) result stack slots }
+    ensures { (place : List ℕ) (stack slots : List ℤ) → LeadsTo Instr.Turn place (point_at stand stack slots) result stack slots }
 {
     if stand.turns == 0 {
         return Lead::Traps(Trap::Turns);

@@ -26,6 +26,8 @@ use Rattle.sk_isa.specs.declared.object.Object.{Object}
 use Rattle.sk_tree.specs.declared.tree.Program.{Program}
 use Rattle.sk_vm.specs.Frames.{Framed, reading_by}
 use Rattle.sk_vm.specs.Instantiated.{Instantiated, IsOf, meaning_of}
+use Rattle.sk_vm.specs.Places.{TakesPlaces}
+use Rattle.sk_vm.proofs.Places.{scalars_are_places}
 use Rattle.sk_vm_rows.specs.Programs.{rows_program}
 use Rattle.sk_vm_rows.specs.Calls.{IsCompiled, IsReady, JoinsInts, MapsInts, TakesInts, mapped_plan, reduced_plan, rows_object}
 use Rattle.sk_vm_rows.proofs.Plain.{rows-plain, rows-plans}
@@ -71,16 +73,16 @@ eight = refl
 pub function-there : (object : Object) (function : ℕ) → IsCompiled object → function < 8 → function < length object.functions
 function-there object function compiled below = rw (compiled.same, eight) below
 
-is-compiled : (object : Object) → object ≡ functions_object rows_program → HasSoundFunctions object → TakesScalars object → IsCompiled object
+is-compiled : (object : Object) → object ≡ functions_object rows_program → HasSoundFunctions object → TakesPlaces object → IsCompiled object
 unfolding rows_object
-is-compiled object is sound scalars = record { same = is; sound = sound; scalars = scalars }
+is-compiled object is sound parameters = record { same = is; sound = sound; parameters = parameters }
 
 -- what is compiled of the program
 module _ {E : Type 0} (program : Program) (same : program ≡ rows_program) where
   pub well-compiled : (result : Result Object E) → IfOk result (λ object. object ≡ functions_object program) → IfOk result IsCompiled
   well-compiled (Ok object) is =
       let plain : IsPlain program = rw same rows-plain in
-      is-compiled object (rw (is, same) refl) (subst HasSoundFunctions (sym is) (plain_is_sound program plain)) (subst TakesScalars (sym is) (plain_takes_scalars program plain))
+      is-compiled object (rw (is, same) refl) (subst HasSoundFunctions (sym is) (plain_is_sound program plain)) (scalars_are_places object (subst TakesScalars (sym is) (plain_takes_scalars program plain)))
   well-compiled (Err error) is = record {}
 
 -- a vector of one cell suits a frame of a function of ints

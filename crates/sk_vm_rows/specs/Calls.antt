@@ -6,13 +6,14 @@ use Rattle.sk_base.specs.declared.number.Ty.TheVariants.{Int}
 use Rattle.sk_tree.specs.declared.tree.ParamKind.TheVariants.{Scalar}
 use Rattle.sk_isa.specs.Objects.{signature_at}
 use Rattle.sk_scheme.specs.Plans.{functions_object}
-use Rattle.sk_isa.specs.SoundObjects.{HasSoundFunctions, TakesScalars}
+use Rattle.sk_isa.specs.SoundObjects.{HasSoundFunctions}
 use Rattle.sk_isa.specs.declared.object.Object.{Object}
 use Rattle.sk_isa.specs.declared.object.Plan.{Plan}
 use Rattle.sk_kernel.specs.Kernels.{Meaning, Suits}
 use Rattle.sk_kernel.specs.Vectors.{vector_source}
 use Rattle.sk_tree.specs.declared.tree.Skeleton.TheVariants.{Map, MapReduce}
 use Rattle.sk_vm.specs.Frames.{Framed, HasRoom, reading_by}
+use Rattle.sk_vm.specs.Places.{TakesPlaces}
 use Rattle.sk_vm_rows.specs.Programs.{rows_program}
 
 -- the compiled program
@@ -22,7 +23,7 @@ rows_object = functions_object rows_program
 pub record IsCompiled (object : Object) : Type 0 where
   pub same : object ≡ rows_object
   pub sound : HasSoundFunctions object
-  pub scalars : TakesScalars object
+  pub parameters : TakesPlaces object
 
 -- a function before main that takes so many ints
 pub record TakesInts (count function : ℕ) : Type 0 where

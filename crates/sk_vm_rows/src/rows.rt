@@ -85,6 +85,32 @@ fn a_run_of_each_length(rt: HostRuntime) -> Result<(), Fail> {
     Ok(())
 }
 
+/// Functions with locals: one that holds the parameter, and one with a value of its own.
+#[test]
+fn locals_at_each_place(rt: HostRuntime) -> Result<(), Fail> {
+    for count in LENGTHS {
+        expect_each(
+            &rt,
+            rt.alloc(),
+            Called::Widening,
+            count,
+            count - 1,
+            (3, -1),
+            Ok((12884901888, -4294967296)),
+        )?;
+        expect_each(
+            &rt,
+            rt.alloc(),
+            Called::Truncating,
+            count,
+            count - 1,
+            (1, -5),
+            Ok((-2147483648, 2147483642)),
+        )?;
+    }
+    Ok(())
+}
+
 #[test]
 fn a_divisor_0_at_a_place(rt: HostRuntime) -> Result<(), Fail> {
     for offset in PLACES {

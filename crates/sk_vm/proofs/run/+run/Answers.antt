@@ -1,9 +1,9 @@
 use Rattle.std.proofs.Common.{rules, ◌≡◌, ℕ, ℤ, ◌<◌, ◌≤◌, ◌+◌, ◌-◌, ◌*◌, List, ◌++◌, length, drop, map, Some, Ok, Result, slice_set, sym, ap, subst, ◌∙◌, arith, FitsSigned, w64, length-take-le}
-use Rattle.sk_meaning.specs.Evaluation.{Value}
+use Rattle.sk_meaning.specs.Evaluation.{Argument, Value}
 use Rattle.sk_isa.specs.Objects.{signature_at}
 use Rattle.sk_vm.specs.Calls.{MayCall}
 use Rattle.sk_vm.specs.Entries.{Entered}
-use Rattle.sk_vm.specs.Rooms.{Begins, given_to}
+use Rattle.sk_vm.specs.Rooms.{Begins, begun_with}
 use Rattle.sk_vm.specs.Points.{values_in, point_at}
 use Rattle.std.proofs.lemmas.Int.{to_z-of_z}
 use Rattle.sk_base.specs.declared.number.Trap.{Trap}
@@ -11,7 +11,7 @@ use Rattle.sk_isa.specs.Coded.{Next, next_of, function_of}
 use Rattle.sk_isa.specs.Configurations.{returning, Goes as Going}
 use Rattle.sk_vm.proofs.Calls.{params_fit, passed, call_begins, call_returns}
 use Rattle.sk_vm.proofs.Chains.{slots-within}
-use Rattle.sk_vm.proofs.Middle.{CallReady, within, inside, needs, call_ready, call_leads}
+use Rattle.sk_vm.proofs.Middle.{CallReady, finds, within, inside, needs, call_ready, call_leads}
 use Rattle.sk_vm.proofs.Running.{routine_at, goes_on, ends_with}
 use Rattle.sk_vm.proofs.Starts.{starts}
 use Rattle.sk_vm.proofs.run.+run.Goals as goal
@@ -26,43 +26,47 @@ wide h counted is = omega arith
 
 pub run_code-loop-next-init : goal.run_code-loop-next-init
 run_code-loop-next-init t c =
-    starts c.args.entry.now.object c.instrs-instrs.ensures.entered.sound c.args.entry.now.function c.instrs-instrs.ensures.entered.there c.args.slots.now c.requires.begins c.args.turns c.args.stack.now c.instrs-instrs.result.now c.instrs-instrs.ensures.instrs
+    starts c.args.entry.now.object c.instrs-instrs.ensures.entered.sound c.args.entry.now.function c.instrs-instrs.ensures.entered.there c.args.place.now c.args.slots.now c.requires.begins c.args.turns c.args.stack.now c.instrs-instrs.result.now c.instrs-instrs.ensures.instrs
 
 pub run_code-instr_at-requires : goal.run_code-instr_at-requires
-run_code-instr_at-requires t c = within _ _ _ _ _ _ _ _ c.loop-next.invariant
+run_code-instr_at-requires t c = within _ _ _ _ _ _ _ _ _ c.loop-next.invariant
 
 pub run_code-step-requires-clause-inside : goal.run_code-step-requires-clause-inside
-run_code-step-requires-clause-inside t c = inside _ _ _ _ _ _ c.loop-next.stack _ c.loop-next.invariant (deep c.requires.space.depth c.loop-next.auto.stack)
+run_code-step-requires-clause-inside t c = inside _ _ _ _ _ _ _ c.loop-next.stack _ c.loop-next.invariant (deep c.requires.space.depth c.loop-next.auto.stack)
 
 pub run_code-step-requires-clause-needs : goal.run_code-step-requires-clause-needs
-run_code-step-requires-clause-needs t c = needs _ _ _ _ _ _ c.loop-next.stack _ c.loop-next.invariant _ c.instrs-instrs.ensures.entered.scalars c.instr_at.ensures.found (deep c.requires.space.depth c.loop-next.auto.stack)
+run_code-step-requires-clause-needs t c = needs _ _ _ _ _ _ _ c.loop-next.stack _ c.loop-next.invariant _ c.instrs-instrs.ensures.entered.parameters c.instr_at.ensures.found (deep c.requires.space.depth c.loop-next.auto.stack)
 
 pub run_code-loop-next-smaller-in-Goes : goal.run_code-loop-next-smaller-in-Goes
 run_code-loop-next-smaller-in-Goes t c =
-    (goes_on _ _ _ _ _ _ c.in-Goes.next _ c.step.new.stack _ c.step.new.slots _ c.instr_at.ensures.found c.loop-next.invariant
-    (c.in-Goes.ensures.leads (routine_at c.args.entry.now.object c.args.entry.now.function c.loop-next.invariant.code c.args.slots.now))).1
+    (goes_on _ _ _ _ _ _ _ c.in-Goes.next _ c.step.new.stack _ c.step.new.slots _ c.instr_at.ensures.found c.loop-next.invariant
+    (c.in-Goes.ensures.leads (routine_at c.args.entry.now.object c.args.entry.now.function c.loop-next.invariant.code c.args.place.now c.args.slots.now)
+    (finds _ _ _ _ _ _ _ c.loop-next.stack _ c.loop-next.invariant _ c.instrs-instrs.ensures.entered.parameters c.instr_at.ensures.found))).1
 
 pub run_code-loop-next-preserved-in-Goes : goal.run_code-loop-next-preserved-in-Goes
 run_code-loop-next-preserved-in-Goes t c =
-    (goes_on _ _ _ _ _ _ c.in-Goes.next _ c.step.new.stack _ c.step.new.slots _ c.instr_at.ensures.found c.loop-next.invariant
-    (c.in-Goes.ensures.leads (routine_at c.args.entry.now.object c.args.entry.now.function c.loop-next.invariant.code c.args.slots.now))).0
+    (goes_on _ _ _ _ _ _ _ c.in-Goes.next _ c.step.new.stack _ c.step.new.slots _ c.instr_at.ensures.found c.loop-next.invariant
+    (c.in-Goes.ensures.leads (routine_at c.args.entry.now.object c.args.entry.now.function c.loop-next.invariant.code c.args.place.now c.args.slots.now)
+    (finds _ _ _ _ _ _ _ c.loop-next.stack _ c.loop-next.invariant _ c.instrs-instrs.ensures.entered.parameters c.instr_at.ensures.found))).0
 
 pub run_code-returns-in-Ends : goal.run_code-returns-in-Ends
 run_code-returns-in-Ends t c =
     let fits : FitsSigned w64 c.in-Ends.value = search rules in
     ap (λ (x : ℤ). Ok (x, c.in-Ends.left)) (to_z-of_z w64 c.in-Ends.value fits)
-    ∙ sym (ends_with _ _ _ _ _ _ _ _ _ _ c.instr_at.ensures.found c.loop-next.invariant
-    (c.in-Ends.ensures.leads (routine_at c.args.entry.now.object c.args.entry.now.function c.loop-next.invariant.code c.args.slots.now)))
+    ∙ sym (ends_with _ _ _ _ _ _ _ _ _ _ _ c.instr_at.ensures.found c.loop-next.invariant
+    (c.in-Ends.ensures.leads (routine_at c.args.entry.now.object c.args.entry.now.function c.loop-next.invariant.code c.args.place.now c.args.slots.now)
+    (finds _ _ _ _ _ _ _ c.loop-next.stack _ c.loop-next.invariant _ c.instrs-instrs.ensures.entered.parameters c.instr_at.ensures.found)))
 
 pub run_code-returns-in-Traps : goal.run_code-returns-in-Traps
 run_code-returns-in-Traps t c =
-    sym (ends_with _ _ _ _ _ _ _ _ _ _ c.instr_at.ensures.found c.loop-next.invariant
-    (c.in-Traps.ensures.leads (routine_at c.args.entry.now.object c.args.entry.now.function c.loop-next.invariant.code c.args.slots.now)))
+    sym (ends_with _ _ _ _ _ _ _ _ _ _ _ c.instr_at.ensures.found c.loop-next.invariant
+    (c.in-Traps.ensures.leads (routine_at c.args.entry.now.object c.args.entry.now.function c.loop-next.invariant.code c.args.place.now c.args.slots.now)
+    (finds _ _ _ _ _ _ _ c.loop-next.stack _ c.loop-next.invariant _ c.instrs-instrs.ensures.entered.parameters c.instr_at.ensures.found)))
 
 -- a step calls a function
-ready : (t : ℕ) (c : run_code-In-Calls t) → CallReady _ _ _ _ _ _ _ _ c.loop-next.invariant c.in-Calls.callee c.loop-next.rest
+ready : (t : ℕ) (c : run_code-In-Calls t) → CallReady _ _ _ _ _ _ _ _ _ c.loop-next.invariant c.in-Calls.callee c.loop-next.rest
 ready t c =
-    call_ready _ _ _ _ _ _ _ _ c.loop-next.invariant c.in-Calls.callee c.loop-next.rest c.instrs-instrs.ensures.entered.there (c.instr_at.ensures.found ∙ ap Some c.in-Calls.ensures.leads)
+    call_ready _ _ _ _ _ _ _ _ _ c.loop-next.invariant c.in-Calls.callee c.loop-next.rest c.instrs-instrs.ensures.entered.there (c.instr_at.ensures.found ∙ ap Some c.in-Calls.ensures.leads)
     (deep c.requires.space.depth c.loop-next.auto.stack) (wide c.requires.space.slots c.requires.begins.count c.loop-next.auto.rest)
 
 pub run_code-of-requires : goal.run_code-of-requires
@@ -98,12 +102,12 @@ called-enter-requires t c =
 
 -- the slots of the function that is called begin with its arguments
 begins : (t : ℕ) (c : called-After-enter t)
-    → Begins c.args.callee.now.object c.args.callee.now.function c.enter.new.slots
-    × (given_to c.args.callee.now.object c.args.callee.now.function c.enter.new.slots ≡ passed c.args.callee.now.object c.args.callee.now.function c.args.stack.now c.args.stand.top)
+    → Begins c.args.callee.now.object c.args.callee.now.function c.args.place.now c.enter.new.slots
+    × (begun_with c.args.callee.now.object c.args.callee.now.function c.args.place.now c.enter.new.slots ≡ map Value (passed c.args.callee.now.object c.args.callee.now.function c.args.stack.now c.args.stand.top))
 begins t c =
     let takes = c.param_count-takes.ensures in
     let enough = c.requires.ready.takes in
-    call_begins c.args.callee.now.object c.slot_count.ensures.entered.sound c.args.callee.now.function c.slot_count.ensures.entered.there c.args.stack.now c.split_at_mut-free.result.1.now c.enter.new.slots c.args.stand.top
+    call_begins c.args.callee.now.object c.slot_count.ensures.entered.sound c.args.callee.now.function c.slot_count.ensures.entered.there c.args.place.now c.args.stack.now c.split_at_mut-free.result.1.now c.enter.new.slots c.args.stand.top
     c.param_count-takes.result (length c.split_at_mut-slots.result.0.now) takes (omega arith) c.requires.ready.inside c.split_at_mut-free.ensures.back
     (c.split_at_mut-slots.ensures.front_len ∙ c.slot_count.ensures.count) c.enter.auto.slots c.enter.ensures c.requires.ready.suited
 
@@ -121,9 +125,9 @@ called-run_code-requires t c =
 
 -- the value of the function that is called
 gives : (t : ℕ) (c : called-After-enter t) (value : Result (ℤ × ℕ) Trap)
-    → value ≡ function_of c.args.callee.now.object c.args.callee.now.function (map Value (given_to c.args.callee.now.object c.args.callee.now.function c.enter.new.slots)) c.args.stand.turns
+    → value ≡ function_of c.args.callee.now.object c.args.callee.now.function (begun_with c.args.callee.now.object c.args.callee.now.function c.args.place.now c.enter.new.slots) c.args.stand.turns
     → function_of c.args.callee.now.object c.args.callee.now.function (map Value (passed c.args.callee.now.object c.args.callee.now.function c.args.stack.now c.args.stand.top)) c.args.stand.turns ≡ value
-gives t c value is = ap (λ (xs : List ℤ). function_of c.args.callee.now.object c.args.callee.now.function (map Value xs) c.args.stand.turns) (sym (begins t c).1) ∙ sym is
+gives t c value is = ap (λ (xs : List Argument). function_of c.args.callee.now.object c.args.callee.now.function xs c.args.stand.turns) (sym (begins t c).1) ∙ sym is
 
 pub called-returns-in-Ok : goal.called-returns-in-Ok
 called-returns-in-Ok t c slots =
@@ -149,11 +153,11 @@ leads : (t : ℕ) (c : run_code-In-Calls t) (next : Next) (called : Entered) →
     → next ≡ returning (point_at c.loop-next.stand c.step.new.stack c.step.new.slots)
     (drop (length (signature_at called.object called.function).params) (values_in c.step.new.stack c.loop-next.stand.top))
     (function_of called.object called.function (map Value (passed called.object called.function c.step.new.stack c.loop-next.stand.top)) c.loop-next.stand.turns)
-    → next_of (routine_at c.args.entry.now.object c.args.entry.now.function c.loop-next.invariant.code c.args.slots.now) c.instr_at.result.now (point_at c.loop-next.stand c.loop-next.stack c.loop-next.slots)
+    → next_of (routine_at c.args.entry.now.object c.args.entry.now.function c.loop-next.invariant.code c.args.place.now c.args.slots.now) c.instr_at.result.now (point_at c.loop-next.stand c.loop-next.stack c.loop-next.slots)
     ≡ next
 leads t c next called is led =
     let entered = c.instrs-instrs.ensures.entered in
-    call_leads _ _ _ _ _ _ _ _ c.loop-next.invariant entered.sound c.in-Calls.callee _ (ready t c) entered.there _ c.in-Calls.ensures.leads _ _
+    call_leads _ _ _ _ _ _ _ _ _ c.loop-next.invariant entered.sound c.in-Calls.callee _ (ready t c) entered.there _ c.in-Calls.ensures.leads _ _
     c.in-Calls.ensures.kept.0 c.in-Calls.ensures.kept.1 next
     (subst (λ (e : Entered). next ≡ returning (point_at c.loop-next.stand c.step.new.stack c.step.new.slots)
     (drop (length (signature_at e.object e.function).params) (values_in c.step.new.stack c.loop-next.stand.top))
@@ -161,15 +165,15 @@ leads t c next called is led =
 
 pub run_code-loop-next-smaller : goal.run_code-loop-next-smaller
 run_code-loop-next-smaller t c =
-    (goes_on _ _ _ _ _ _ c.in-Ok.next _ c.called.new.stack _ c.step.new.slots _ c.instr_at.ensures.found c.loop-next.invariant
+    (goes_on _ _ _ _ _ _ _ c.in-Ok.next _ c.called.new.stack _ c.step.new.slots _ c.instr_at.ensures.found c.loop-next.invariant
     (leads t (goal.at.run_code-loop-next-smaller t c).In-Calls _ _ c.of.ensures (c.in-Ok.ensures c.step.new.slots))).1
 
 pub run_code-loop-next-preserved : goal.run_code-loop-next-preserved
 run_code-loop-next-preserved t c =
-    (goes_on _ _ _ _ _ _ c.in-Ok.next _ c.called.new.stack _ c.step.new.slots _ c.instr_at.ensures.found c.loop-next.invariant
+    (goes_on _ _ _ _ _ _ _ c.in-Ok.next _ c.called.new.stack _ c.step.new.slots _ c.instr_at.ensures.found c.loop-next.invariant
     (leads t (goal.at.run_code-loop-next-preserved t c).In-Calls _ _ c.of.ensures (c.in-Ok.ensures c.step.new.slots))).0
 
 pub run_code-returns-in-Err : goal.run_code-returns-in-Err
 run_code-returns-in-Err t c =
-    sym (ends_with _ _ _ _ _ _ _ _ _ _ c.instr_at.ensures.found c.loop-next.invariant
+    sym (ends_with _ _ _ _ _ _ _ _ _ _ _ c.instr_at.ensures.found c.loop-next.invariant
     (leads t (goal.at.run_code-returns-in-Err t c).In-Calls _ _ c.of.ensures (c.in-Err.ensures c.step.new.slots)))

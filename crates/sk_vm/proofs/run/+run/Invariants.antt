@@ -10,7 +10,7 @@ abbrev pub decreases-run_code : goal.decreases-run_code
 decreases-run_code l = 2 * l.entry.now.function
 
 abbrev pub invariant-run_code-loop-next : goal.invariant-run_code-loop-next
-invariant-run_code-loop-next l = Running l.entry.object l.entry.function l.fn.slots l.turns l.instrs l.stand l.stack l.slots
+invariant-run_code-loop-next l = Running l.entry.object l.entry.function l.place l.fn.slots l.turns l.instrs l.stand l.stack l.slots
 
 abbrev pub decreases-run_code-loop-next : goal.decreases-run_code-loop-next
 decreases-run_code-loop-next l = l.stand.turns * 2 ^ length l.instrs + rank l.instrs l.stand.at

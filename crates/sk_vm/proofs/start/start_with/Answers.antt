@@ -1,14 +1,14 @@
-use Rattle.std.proofs.Common.{rules, ◌≡◌, ◌∙◌, List, [], ◌∷◌, length, ℕ, ℤ, map, Ok, Result, ap, sym, subst, arith, FitsSigned, w64}
+use Rattle.std.proofs.Common.{rules, ◌≡◌, ◌∙◌, List, [], ◌∷◌, length, ℕ, ℤ, Ok, Result, ap, sym, subst, arith, FitsSigned, w64}
 use Rattle.std.proofs.lemmas.Int.{to_z-of_z}
 use Rattle.sk_base.specs.Arithmetic.{InRange}
 use Rattle.sk_isa.specs.Coded.{function_of}
 use Rattle.sk_isa.specs.Objects.{signature_at}
 use Rattle.sk_isa_laws.proofs.TypedLists.{suited-length}
-use Rattle.sk_meaning.specs.Evaluation.{Value, turn_limit, value_only}
+use Rattle.sk_meaning.specs.Evaluation.{Argument, Value, turn_limit, value_only}
 use Rattle.sk_vm.proofs.Calls.{params_fit, begins-entered}
 use Rattle.sk_vm.proofs.Chains.{slots-within}
 use Rattle.sk_vm.proofs.Given.{value-in_range}
-use Rattle.sk_vm.specs.Rooms.{Begins, given_to}
+use Rattle.sk_vm.specs.Rooms.{Begins, begun_with}
 use Rattle.sk_base.specs.declared.number.Trap.{Trap}
 use Rattle.sk_vm.proofs.start.start_with.Goals as goal
 use Rattle.sk_vm.proofs.start.start_with.Goals.{After-enter}
@@ -34,18 +34,18 @@ enter-requires c =
 
 -- the slots begin with the two arguments
 begins : (c : After-enter)
-    → Begins c.args.entry.now.object c.args.entry.now.function c.enter.new.slots
-    × (given_to c.args.entry.now.object c.args.entry.now.function c.enter.new.slots ≡ c.args.a ∷ c.args.b ∷ [])
+    → Begins c.args.entry.now.object c.args.entry.now.function [] c.enter.new.slots
+    × (begun_with c.args.entry.now.object c.args.entry.now.function [] c.enter.new.slots ≡ Value c.args.a ∷ Value c.args.b ∷ [])
 begins c =
     let count = suited-length (signature_at c.args.entry.now.object c.args.entry.now.function).params (Value c.args.a ∷ Value c.args.b ∷ []) c.requires.suits in
-    begins-entered c.args.entry.now.object c.args.entry.now.function (c.args.a ∷ c.args.b ∷ []) c.enter.new.slots (length c.split_at_mut-own.result.0.now)
+    begins-entered c.args.entry.now.object c.args.entry.now.function [] (c.args.a ∷ c.args.b ∷ []) c.enter.new.slots (length c.split_at_mut-own.result.0.now)
     (entered c.enter.ensures (to_z-of_z w64 c.args.a c.ranges.a) (to_z-of_z w64 c.args.b c.ranges.b)) (c.split_at_mut-own.ensures.front_len ∙ c.slot_count.ensures.count) c.enter.auto.slots (omega arith) c.requires.suits
 
 -- the function's value is that for the two arguments
 gives : (c : After-enter) (value : Result (ℤ × ℕ) Trap)
-    → value ≡ function_of c.args.entry.now.object c.args.entry.now.function (map Value (given_to c.args.entry.now.object c.args.entry.now.function c.enter.new.slots)) turn_limit
+    → value ≡ function_of c.args.entry.now.object c.args.entry.now.function (begun_with c.args.entry.now.object c.args.entry.now.function [] c.enter.new.slots) turn_limit
     → value ≡ function_of c.args.entry.now.object c.args.entry.now.function (Value c.args.a ∷ Value c.args.b ∷ []) turn_limit
-gives c value is = is ∙ ap (λ (xs : List ℤ). function_of c.args.entry.now.object c.args.entry.now.function (map Value xs) turn_limit) (begins c).1
+gives c value is = is ∙ ap (λ (xs : List Argument). function_of c.args.entry.now.object c.args.entry.now.function xs turn_limit) (begins c).1
 
 pub run_code-requires-clause-begins : goal.run_code-requires-clause-begins
 run_code-requires-clause-begins c = (begins (goal.at.run_code-requires-clause-begins c).After-enter).0

@@ -6,7 +6,7 @@ use Rattle.sk_vm.proofs.Values.{combines, combining_traps}
 use Rattle.sk_vm.proofs.step.combined.Goals as goal
 
 pub returns-in-Ok : goal.returns-in-Ok
-returns-in-Ok c slots routine =
+returns-in-Ok c place slots routine finds =
     let stack = c.args.stack.now in
     let top = c.args.stand.top in
     let left_fits : FitsSigned w64 (slice_index_or stack (top - 2) (pos 0)) = search rules in
@@ -21,7 +21,7 @@ returns-in-Ok c slots routine =
     combines c.args.op c.args.ty c.args.stand c.past.result stack c.put.new.stack slots routine c.in-Ok.value c.requires.two is c.past.ensures values
 
 pub returns-in-Err : goal.returns-in-Err
-returns-in-Err c slots routine =
+returns-in-Err c place slots routine finds =
     let stack = c.args.stack.now in
     let top = c.args.stand.top in
     let left_fits : FitsSigned w64 (slice_index_or stack (top - 2) (pos 0)) = search rules in

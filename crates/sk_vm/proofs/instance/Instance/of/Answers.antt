@@ -3,7 +3,7 @@ use Rattle.sk_vm.proofs.instance.Instance.of.Goals as goal
 
 pub invariant_of-result : goal.invariant_of-result
 invariant_of-result c = (
-  lawful c.args.object.now c.requires.sound c.requires.scalars c.plan_at.result.now
+  lawful c.args.object.now c.requires.sound c.requires.parameters c.plan_at.result.now
       (plan_fits c.args.object.now c.requires.sound c.args.number c.plan_at.result.now c.plan_at.ensures),
   tt,
 )
@@ -11,6 +11,6 @@ invariant_of-result c = (
 pub invariant_of-result-2 : goal.invariant_of-result-2
 invariant_of-result-2 c = record {
   sound = c.requires.sound;
-  scalars = c.requires.scalars;
+  parameters = c.requires.parameters;
   fits = plan_fits c.args.object.now c.requires.sound c.args.number c.plan_at.result.now c.plan_at.ensures;
 }

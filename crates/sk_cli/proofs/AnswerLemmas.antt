@@ -6,7 +6,7 @@ use Rattle.sk_outside.specs.Faults.{Faults}
 use Rattle.sk_outside.specs.Holding.{Contents, SinkHolding, Tells, TellsLonger}
 use Rattle.sk_world.specs.World.{Ending, End, Trapped, Bound}
 use Rattle.sk_cli.specs.Answer.{Answer, Command, Usage, Run, IsAnswerBy, IsAnswerToBytes, IsWant, Gives, Took, TookPrefix, Told, PrintsPart, after_reading, chain_of, ended_status, refused, run_of_file}
-use Rattle.sk_cli.specs.Sources.{Reading, TooLong, NoTokens, NoProgram, Untyped, Later, Read}
+use Rattle.sk_cli.specs.Sources.{Reading, Read, Refused, TooLong}
 
 -- there are bytes of any number
 longer-than : (limit : ℕ) → (bytes : List ℕ) × (limit < length bytes)
@@ -16,13 +16,13 @@ longer-than limit = (replicate (limit + 1) 0, rw (length-replicate {A = ℕ} (li
 too_long-named : (contents : Option Contents) (name : List ℕ) → TellsLonger contents name 1048576
     → IsAnswerBy contents (chain_of (Run (run_of_file name))) (refused 1 (codes "refused long\n"))
 too_long-named None name longer =
-    let long = longer-than 1048576 in (long.0, tt, (TooLong, long.1, refl))
+    let long = longer-than 1048576 in (long.0, tt, (Refused TooLong, long.1, refl))
 too_long-named (Some find) name longer = found (find name) refl longer
   where
     found : (bytes : Option (List ℕ)) → find name ≡ bytes → IsSomeAnd bytes (λ bytes. 1048576 < length bytes)
         → IsAnswerBy (Some find) (chain_of (Run (run_of_file name))) (refused 1 (codes "refused long\n"))
     found None is longer = absurd longer
-    found (Some bytes) is longer = (bytes, is, (TooLong, longer, refl))
+    found (Some bytes) is longer = (bytes, is, (Refused TooLong, longer, refl))
 
 pub too_long-answer : (command : Command) (contents : Option Contents) (name : List ℕ) → command ≡ Run (run_of_file name)
     → TellsLonger contents name 1048576 → IsAnswerBy contents (chain_of command) (refused 1 (codes "refused long\n"))
@@ -84,9 +84,5 @@ pub bytes-status : (source : List ℕ) (answer : Answer) → IsAnswerToBytes sou
 bytes-status source answer is seven = let read = is None [] in of read.0 read.2
   where
     of : (reading : Reading) → IsAnswerBy None (after_reading (run_of_file []) reading) answer → ⊥
-    of TooLong same = refused-status answer _ same seven
-    of (NoTokens fault) same = refused-status answer _ same seven
-    of (NoProgram refusal token) same = refused-status answer _ same seven
-    of (Untyped fault) same = refused-status answer _ same seven
-    of Later same = refused-status answer _ same seven
+    of (Refused cause) same = refused-status answer _ same seven
     of (Read program) same = ended-status _ (sym (ap (λ (a : Answer). a.status) same) ∙ seven)

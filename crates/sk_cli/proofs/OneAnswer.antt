@@ -3,7 +3,7 @@ use Rattle.std.proofs.Common.{◌≡◌, ◌⊎◌, ◌∙◌, ◌<◌, ◌≤�
 use Rattle.std.specs.Prelude.{unwrap_or}
 use Rattle.sk_cli.specs.Answer.{Answer, Answers, Chain, Command, IsAnswerBy, Parses, Reads, Run, RunCommand, Usage, after_reading, after_source, asked_of, chain_of}
 use Rattle.sk_cli.specs.OneAnswer.{AnswersAreOne}
-use Rattle.sk_cli.specs.Sources.{IsReading, Later, NoProgram, NoTokens, Read, Reading, ReadsAs, Spells, TooLong, Untyped, source_limit}
+use Rattle.sk_cli.specs.Sources.{Cause, IsCause, IsReading, IsRefused, Later, NoProgram, NoTokens, Read, Reading, Refused, Spells, SpellsTyped, TooLong, Untyped, source_limit}
 use Rattle.sk_grammar.specs.Limits.{ReadsWithin}
 use Rattle.sk_outside.specs.Holding.{Contents}
 use Rattle.sk_reading_complete_laws.proofs.Programs.{one-program}
@@ -51,11 +51,11 @@ module _ (source : List ℕ) where
       one-program tokens one other reads (subst (λ (l : List Token). ReadsWithin l other) (one-list tokens' tokens lexed' lexed) reads')
 
   -- a refused list of tokens spells no program
-  not-spelled : (refusal : Refusal) (token : ℕ) → ReadsAs source (NoProgram refusal token) → (program : Program) → Spells source program → ⊥
+  not-spelled : (refusal : Refusal) (token : ℕ) → IsCause source (NoProgram refusal token) → (program : Program) → Spells source program → ⊥
   not-spelled refusal token (tokens, lexed, refused) program (tokens', lexed', reads) =
       no-fault tokens program (subst (λ (l : List Token). ReadsWithin l program) (one-list tokens' tokens lexed' lexed) reads) refusal token refused
 
-  one-refusal : (refusal other : Refusal) (token at : ℕ) → ReadsAs source (NoProgram refusal token) → ReadsAs source (NoProgram other at)
+  one-refusal : (refusal other : Refusal) (token at : ℕ) → IsCause source (NoProgram refusal token) → IsCause source (NoProgram other at)
       → NoProgram refusal token ≡ NoProgram other at
   one-refusal refusal other token at (tokens, lexed, refused) (tokens', lexed', refused') =
       let same : (token ≡ at) × (refusal ≡ other) =
@@ -66,12 +66,12 @@ module _ (source : List ℕ) where
   faulty : (program : Program) (fault : Fault) → least_fault program ≡ Some fault → IsTyped program → ⊥
   faulty program fault is typed = none-some fault (sym (ap least_of typed) ∙ is)
 
-  one-untyped : (one other : Fault) → ReadsAs source (Untyped one) → ReadsAs source (Untyped other) → one ≡ other
+  one-untyped : (one other : Fault) → IsCause source (Untyped one) → IsCause source (Untyped other) → one ≡ other
   one-untyped one other (program, spelled, is) (program', spelled', is') =
       some-one one other (sym is ∙ ap least_fault (one-spelled program program' spelled spelled') ∙ is')
 
   -- what has a fault can neither be run nor be refused for later
-  untyped-typed : (fault : Fault) (program : Program) (can_run : Bool) → ReadsAs source (Untyped fault)
+  untyped-typed : (fault : Fault) (program : Program) (can_run : Bool) → IsCause source (Untyped fault)
       → Spells source program × IsTyped program × (has_vector_form program ≡ can_run) → ⊥
   untyped-typed fault program can_run (faulted, spelled', is) (spelled, typed, form) =
       faulty program fault (ap least_fault (one-spelled program faulted spelled spelled') ∙ is) typed
@@ -83,64 +83,67 @@ module _ (source : List ℕ) where
 
   -- ---- a source is read as one thing
 
-  one-read : (one other : Reading) → ReadsAs source one → ReadsAs source other → one ≡ other
-  one-read TooLong other never h = absurd never
-  one-read one TooLong h never = absurd never
-  one-read (NoTokens fault) (NoTokens other) h k = ap NoTokens (one-fault fault other h k)
-  one-read (NoTokens fault) (NoProgram refusal token) h k = absurd (no-tokens fault k.0 h k.1)
-  one-read (NoTokens fault) (Untyped other) h k = absurd (no-tokens fault k.1.0 h k.1.1)
-  one-read (NoTokens fault) Later h k = absurd (no-tokens fault k.1.0.0 h k.1.0.1)
-  one-read (NoTokens fault) (Read program) h k = absurd (no-tokens fault k.0.0 h k.0.1)
-  one-read (NoProgram refusal token) (NoTokens fault) h k = absurd (no-tokens fault h.0 k h.1)
-  one-read (NoProgram refusal token) (NoProgram other at) h k = one-refusal refusal other token at h k
-  one-read (NoProgram refusal token) (Untyped fault) h k = absurd (not-spelled refusal token h k.0 k.1)
-  one-read (NoProgram refusal token) Later h k = absurd (not-spelled refusal token h k.0 k.1.0)
-  one-read (NoProgram refusal token) (Read program) h k = absurd (not-spelled refusal token h program k.0)
-  one-read (Untyped fault) (NoTokens other) h k = absurd (no-tokens other h.1.0 k h.1.1)
-  one-read (Untyped fault) (NoProgram refusal token) h k = absurd (not-spelled refusal token k h.0 h.1)
-  one-read (Untyped fault) (Untyped other) h k = ap Untyped (one-untyped fault other h k)
-  one-read (Untyped fault) Later h k = absurd (untyped-typed fault k.0 false h k.1)
-  one-read (Untyped fault) (Read program) h k = absurd (untyped-typed fault program true h k)
-  one-read Later (NoTokens fault) h k = absurd (no-tokens fault h.1.0.0 k h.1.0.1)
-  one-read Later (NoProgram refusal token) h k = absurd (not-spelled refusal token k h.0 h.1.0)
-  one-read Later (Untyped fault) h k = absurd (untyped-typed fault h.0 false k h.1)
-  one-read Later Later h k = refl
-  one-read Later (Read program) h k = absurd (later-run h.0 program h.1 k)
-  one-read (Read program) (NoTokens fault) h k = absurd (no-tokens fault h.0.0 k h.0.1)
-  one-read (Read program) (NoProgram refusal token) h k = absurd (not-spelled refusal token k program h.0)
-  one-read (Read program) (Untyped fault) h k = absurd (untyped-typed fault program true k h)
-  one-read (Read program) Later h k = absurd (later-run k.0 program k.1 h)
-  one-read (Read program) (Read other) h k = ap Read (one-spelled program other h.0 k.0)
+  one-cause : (one other : Cause) → IsCause source one → IsCause source other → one ≡ other
+  one-cause TooLong other never h = absurd never
+  one-cause one TooLong h never = absurd never
+  one-cause (NoTokens fault) (NoTokens other) h k = ap NoTokens (one-fault fault other h k)
+  one-cause (NoTokens fault) (NoProgram refusal token) h k = absurd (no-tokens fault k.0 h k.1)
+  one-cause (NoTokens fault) (Untyped other) h k = absurd (no-tokens fault k.1.0 h k.1.1)
+  one-cause (NoTokens fault) Later h k = absurd (no-tokens fault k.1.0.0 h k.1.0.1)
+  one-cause (NoProgram refusal token) (NoTokens fault) h k = absurd (no-tokens fault h.0 k h.1)
+  one-cause (NoProgram refusal token) (NoProgram other at) h k = one-refusal refusal other token at h k
+  one-cause (NoProgram refusal token) (Untyped fault) h k = absurd (not-spelled refusal token h k.0 k.1)
+  one-cause (NoProgram refusal token) Later h k = absurd (not-spelled refusal token h k.0 k.1.0)
+  one-cause (Untyped fault) (NoTokens other) h k = absurd (no-tokens other h.1.0 k h.1.1)
+  one-cause (Untyped fault) (NoProgram refusal token) h k = absurd (not-spelled refusal token k h.0 h.1)
+  one-cause (Untyped fault) (Untyped other) h k = ap Untyped (one-untyped fault other h k)
+  one-cause (Untyped fault) Later h k = absurd (untyped-typed fault k.0 false h k.1)
+  one-cause Later (NoTokens fault) h k = absurd (no-tokens fault h.1.0.0 k h.1.0.1)
+  one-cause Later (NoProgram refusal token) h k = absurd (not-spelled refusal token k h.0 h.1.0)
+  one-cause Later (Untyped fault) h k = absurd (untyped-typed fault h.0 false k h.1)
+  one-cause Later Later h k = refl
 
-  -- what a reading says beside the length, where the source is not too long
-  as-read : (one : Reading) → length source ≤ source_limit → IsReading source one → ReadsAs source one
-  as-read TooLong few h = let no : ⊥ = omega (arith, few, h) in absurd no
-  as-read (NoTokens fault) few h = h.1
-  as-read (NoProgram refusal token) few h = h.1
-  as-read (Untyped fault) few h = h.1
-  as-read Later few h = h.1
-  as-read (Read program) few h = h.1
+  -- what can be run has no cause
+  runs : (cause : Cause) (program : Program) → IsCause source cause → SpellsTyped source program true → ⊥
+  runs TooLong program never k = never
+  runs (NoTokens fault) program h k = no-tokens fault k.0.0 h k.0.1
+  runs (NoProgram refusal token) program h k = not-spelled refusal token h program k.0
+  runs (Untyped fault) program h k = untyped-typed fault program true h k
+  runs Later program h k = later-run h.0 program h.1 k
+
+  -- the cause where the source is not too long
+  as-cause : (cause : Cause) → length source ≤ source_limit → IsRefused source cause → IsCause source cause
+  as-cause TooLong few h = let no : ⊥ = omega (arith, few, h) in absurd no
+  as-cause (NoTokens fault) few h = h.1
+  as-cause (NoProgram refusal token) few h = h.1
+  as-cause (Untyped fault) few h = h.1
+  as-cause Later few h = h.1
 
   -- a source is too long, or not
-  is-few : (one : Reading) → IsReading source one → (one ≡ TooLong) ⊎ (length source ≤ source_limit)
+  is-few : (cause : Cause) → IsRefused source cause → (cause ≡ TooLong) ⊎ (length source ≤ source_limit)
   is-few TooLong h = inl refl
   is-few (NoTokens fault) h = inr h.0
   is-few (NoProgram refusal token) h = inr h.0
   is-few (Untyped fault) h = inr h.0
   is-few Later h = inr h.0
-  is-few (Read program) h = inr h.0
 
-  long-few : (one : Reading) → IsReading source one → one ≡ TooLong → length source ≤ source_limit → ⊥
-  long-few one h is few = let long : source_limit < length source = subst (IsReading source) is h in omega (arith, long, few)
+  long-few : (cause : Cause) → IsRefused source cause → cause ≡ TooLong → length source ≤ source_limit → ⊥
+  long-few cause h is few = let long : source_limit < length source = subst (IsRefused source) is h in omega (arith, long, few)
 
-  pub one-reading : (one other : Reading) → IsReading source one → IsReading source other → one ≡ other
-  one-reading one other h k = of (is-few one h) (is-few other k)
+  one-refused : (one other : Cause) → IsRefused source one → IsRefused source other → one ≡ other
+  one-refused one other h k = of (is-few one h) (is-few other k)
     where
       of : (one ≡ TooLong) ⊎ (length source ≤ source_limit) → (other ≡ TooLong) ⊎ (length source ≤ source_limit) → one ≡ other
       of (inl is) (inl same) = is ∙ sym same
       of (inl is) (inr few) = absurd (long-few one h is few)
       of (inr few) (inl same) = absurd (long-few other k same few)
-      of (inr few) (inr also) = one-read one other (as-read one few h) (as-read other few k)
+      of (inr few) (inr also) = one-cause one other (as-cause one few h) (as-cause other few k)
+
+  pub one-reading : (one other : Reading) → IsReading source one → IsReading source other → one ≡ other
+  one-reading (Refused cause) (Refused other) h k = ap Refused (one-refused cause other h k)
+  one-reading (Refused cause) (Read program) h k = absurd (runs cause program (as-cause cause k.0 h) k.1)
+  one-reading (Read program) (Refused cause) h k = absurd (runs cause program (as-cause cause h.0 k) h.1)
+  one-reading (Read program) (Read other) h k = ap Read (one-spelled program other h.1.0 k.1.0)
 
 -- ---- a chain ends with one answer
 

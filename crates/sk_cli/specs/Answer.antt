@@ -4,7 +4,7 @@ use Rattle.std.specs.Fmt.{decimal}
 use Rattle.std.specs.Io.KnownBytes.{Appends}
 use Rattle.sk_base.specs.declared.number.Trap.{Trap as TrapKind}
 use Rattle.sk_base.specs.declared.number.Trap.TheVariants.{Divide, Index, Turns, Shape, Empty}
-use Rattle.sk_cli.specs.Sources.{IsReading, Read, Reading, numbered_line, refused_line}
+use Rattle.sk_cli.specs.Sources.{IsReading, Read, Reading, Refused, numbered_line, refused_line}
 use Rattle.sk_main_run.specs.MainRun.{run_of_program}
 use Rattle.sk_names.specs.Bytes.{same_bytes}
 use Rattle.sk_outside.specs.Faults.{Faults, Rose}
@@ -107,7 +107,7 @@ pub data Chain : Type 0 where
 -- a run without inputs, which is what a program of vectors needs; or the refusal of the source
 abbrev pub after_reading : RunCommand → Reading → Chain
 after_reading command (Read program) = Answers (ran command (run_of_program program [] command.bound false))
-after_reading command reading = Answers (refused 1 (refused_line reading))
+after_reading command (Refused cause) = Answers (refused 1 (refused_line cause))
 
 -- the chain behind the bytes of the source
 abbrev pub after_source : RunCommand → (source : List ℕ) → Chain
@@ -175,14 +175,14 @@ pub record HasReadFault (command : Command) (name : List ℕ) (reads reads' : Fa
   pub named : reads'.name ≡ Some name
   pub given : Contains (reads_in command) name
 
--- such a read has failed, nothing was printed, and the line says so
+-- such a read has failed, nothing was printed, and the line says so, as far as the error stream took it
 pub record IsReadFault (command : Command) (reads reads' : Faults) (out out' err err' : SinkHolding) : Type 0 where
   pub name : List ℕ
   pub failed : HasReadFault command name reads reads'
   pub silent : Took [] out out'
   pub told : Told (read_fault_line name) err err'
 
--- a put on the output has failed in this call, and the line says so
+-- a put on the output has failed in this call, and the line says so, as far as the error stream took it
 pub record IsWriteFault (out out' err err' : SinkHolding) : Type 0 where
   pub rose : Rose out.faults out'.faults
   pub told : Told write_fault_line err err'

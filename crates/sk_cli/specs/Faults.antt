@@ -1,7 +1,7 @@
 -- What a fault says of the bytes of a source, and how it is told.
 use Rattle.std.specs.Prelude.{◌≡◌, ℕ, false, List, Option, Some, None, Ok}
 use Rattle.sk_cli.specs.Answer.{Told, memory_line}
-use Rattle.sk_cli.specs.Sources.{NoProgram, NoTokens, Reading, Spells, SpellsTyped, Untyped, refused_line}
+use Rattle.sk_cli.specs.Sources.{Cause, NoProgram, NoTokens, Spells, SpellsTyped, Untyped, refused_line}
 use Rattle.sk_cli.specs.Sources as sources
 use Rattle.sk_cli.specs.declared.source.SourceFault.{SourceFault}
 use Rattle.sk_cli.specs.declared.source.SourceFault.TheVariants.{Tokens, Parse, Types, Later, Memory}
@@ -33,42 +33,42 @@ TellsSource source (Types fault) = (program : Program) × Spells source program 
 TellsSource source Later = (program : Program) × SpellsTyped source program false
 TellsSource source Memory = Unit {0}
 
--- ---- what a source is where it has the fault, unless memory was wanting
+-- ---- why a source with the fault is not run, unless memory was wanting
 
-abbrev pub reading_of_tokens : LexFault → Option Reading
-reading_of_tokens (lexer.NoToken at) = Some (NoTokens (NoToken at))
-reading_of_tokens (lexer.Wide at) = Some (NoTokens (Wide at))
-reading_of_tokens (lexer.LongName at) = Some (NoTokens (LongName at))
-reading_of_tokens lexer.Memory = None
+abbrev pub cause_of_tokens : LexFault → Option Cause
+cause_of_tokens (lexer.NoToken at) = Some (NoTokens (NoToken at))
+cause_of_tokens (lexer.Wide at) = Some (NoTokens (Wide at))
+cause_of_tokens (lexer.LongName at) = Some (NoTokens (LongName at))
+cause_of_tokens lexer.Memory = None
 
-abbrev pub reading_of_parse : ParseFault → Option Reading
-reading_of_parse (parser.Syntax token) = Some (NoProgram Syntax token)
-reading_of_parse (parser.Deep token) = Some (NoProgram Deep token)
-reading_of_parse (parser.Many what token) = Some (NoProgram (Many what) token)
-reading_of_parse parser.Memory = None
+abbrev pub cause_of_parse : ParseFault → Option Cause
+cause_of_parse (parser.Syntax token) = Some (NoProgram Syntax token)
+cause_of_parse (parser.Deep token) = Some (NoProgram Deep token)
+cause_of_parse (parser.Many what token) = Some (NoProgram (Many what) token)
+cause_of_parse parser.Memory = None
 
-abbrev pub reading_of_types : TypeFault → Option Reading
-reading_of_types (types.Unknown line) = Some (Untyped (At line Unknown))
-reading_of_types (types.Twice line) = Some (Untyped (At line Twice))
-reading_of_types (types.Mismatch line) = Some (Untyped (At line Mismatch))
-reading_of_types (types.Arity line) = Some (Untyped (At line Arity))
-reading_of_types (types.NoReturn line) = Some (Untyped (At line NoReturn))
-reading_of_types types.NoMain = Some (Untyped NoMain)
-reading_of_types types.Memory = None
+abbrev pub cause_of_types : TypeFault → Option Cause
+cause_of_types (types.Unknown line) = Some (Untyped (At line Unknown))
+cause_of_types (types.Twice line) = Some (Untyped (At line Twice))
+cause_of_types (types.Mismatch line) = Some (Untyped (At line Mismatch))
+cause_of_types (types.Arity line) = Some (Untyped (At line Arity))
+cause_of_types (types.NoReturn line) = Some (Untyped (At line NoReturn))
+cause_of_types types.NoMain = Some (Untyped NoMain)
+cause_of_types types.Memory = None
 
-abbrev pub reading_of : SourceFault → Option Reading
-reading_of (Tokens fault) = reading_of_tokens fault
-reading_of (Parse fault) = reading_of_parse fault
-reading_of (Types fault) = reading_of_types fault
-reading_of Later = Some sources.Later
-reading_of Memory = None
+abbrev pub cause_of : SourceFault → Option Cause
+cause_of (Tokens fault) = cause_of_tokens fault
+cause_of (Parse fault) = cause_of_parse fault
+cause_of (Types fault) = cause_of_types fault
+cause_of Later = Some sources.Later
+cause_of Memory = None
 
 -- the line that is told, which is that of the want where memory was wanting
-abbrev pub line_told : Option Reading → List ℕ
-line_told (Some reading) = refused_line reading
+abbrev pub line_told : Option Cause → List ℕ
+line_told (Some cause) = refused_line cause
 line_told None = memory_line
 
 -- the refusal was told with its status
-abbrev pub IsRefusedAs : Option Reading → (given : ℕ) → (err err' : SinkHolding) → Type 0
-IsRefusedAs (Some reading) given err err' = (given ≡ 1) × Told (refused_line reading) err err'
+abbrev pub IsRefusedAs : Option Cause → (given : ℕ) → (err err' : SinkHolding) → Type 0
+IsRefusedAs (Some cause) given err err' = (given ≡ 1) × Told (refused_line cause) err err'
 IsRefusedAs None given err err' = ⊥

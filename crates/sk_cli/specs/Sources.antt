@@ -17,14 +17,18 @@ use Rattle.sk_typing.specs.declared.names.FaultKind.{FaultKind}
 use Rattle.sk_typing.specs.declared.names.FaultKind.TheVariants.{Unknown, Twice, Mismatch, Arity, NoReturn}
 use Rattle.sk_vector_form.specs.VectorForm.{has_vector_form}
 
--- too many bytes; no tokens; tokens that no program within the limits has; a program that breaks a rule of names or types; one
--- that is not run yet; or one that can be run
+-- Why a source is not run: too many bytes; no tokens; tokens that no program within the limits has; a program that breaks a
+-- rule of names or types; or one that is not run yet.
+pub data Cause : Type 0 where
+  TooLong : Cause
+  NoTokens : TokenFault → Cause
+  NoProgram : Refusal → (token : ℕ) → Cause
+  Untyped : Fault → Cause
+  Later : Cause
+
+-- a source that is refused, or a program that can be run
 pub data Reading : Type 0 where
-  TooLong : Reading
-  NoTokens : TokenFault → Reading
-  NoProgram : Refusal → (token : ℕ) → Reading
-  Untyped : Fault → Reading
-  Later : Reading
+  Refused : Cause → Reading
   Read : Program → Reading
 
 -- a source has at most 2^20 bytes
@@ -39,17 +43,21 @@ Spells source program = (tokens : List Token) × (tokens_of source ≡ Ok tokens
 abbrev pub SpellsTyped : (source : List ℕ) → Program → (can_run : Bool) → Type 0
 SpellsTyped source program can_run = Spells source program × IsTyped program × (has_vector_form program ≡ can_run)
 
-abbrev pub ReadsAs : (source : List ℕ) → Reading → Type 0
-ReadsAs source TooLong = ⊥
-ReadsAs source (NoTokens fault) = tokens_of source ≡ Err fault
-ReadsAs source (NoProgram refusal token) = (tokens : List Token) × (tokens_of source ≡ Ok tokens) × IsRefusal tokens refusal token
-ReadsAs source (Untyped fault) = (program : Program) × Spells source program × (least_fault program ≡ Some fault)
-ReadsAs source Later = (program : Program) × SpellsTyped source program false
-ReadsAs source (Read program) = SpellsTyped source program true
+-- the cause, where the source is not too long
+abbrev pub IsCause : (source : List ℕ) → Cause → Type 0
+IsCause source TooLong = ⊥
+IsCause source (NoTokens fault) = tokens_of source ≡ Err fault
+IsCause source (NoProgram refusal token) = (tokens : List Token) × (tokens_of source ≡ Ok tokens) × IsRefusal tokens refusal token
+IsCause source (Untyped fault) = (program : Program) × Spells source program × (least_fault program ≡ Some fault)
+IsCause source Later = (program : Program) × SpellsTyped source program false
+
+abbrev pub IsRefused : (source : List ℕ) → Cause → Type 0
+IsRefused source TooLong = source_limit < length source
+IsRefused source cause = (length source ≤ source_limit) × IsCause source cause
 
 abbrev pub IsReading : (source : List ℕ) → Reading → Type 0
-IsReading source TooLong = source_limit < length source
-IsReading source reading = (length source ≤ source_limit) × ReadsAs source reading
+IsReading source (Refused cause) = IsRefused source cause
+IsReading source (Read program) = (length source ≤ source_limit) × SpellsTyped source program true
 
 -- ---- the lines of refusals
 
@@ -85,10 +93,9 @@ fault_line (At line kind) = numbered_line (fault_words kind) line
 fault_line NoMain = codes "refused nomain\n"
 
 -- the line that tells why a source is not run
-abbrev pub refused_line : Reading → List ℕ
+abbrev pub refused_line : Cause → List ℕ
 refused_line TooLong = codes "refused long\n"
 refused_line (NoTokens fault) = token_fault_line fault
 refused_line (NoProgram refusal token) = refusal_line refusal token
 refused_line (Untyped fault) = fault_line fault
 refused_line Later = codes "refused later\n"
-refused_line (Read program) = codes ""

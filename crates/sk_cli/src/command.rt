@@ -37,7 +37,8 @@ fn run_source<O: Sink, E: Sink>(alloc: Global, source: &[u8], out: &mut O, err: 
 /// after the program's name.
 ///
 /// The words `run` and a name run the source of that file: what the program prints goes to `out`, and a line on a refusal
-/// or a fault to `err`. A fault of `err` changes no status.
+/// or a fault to `err`. Where a put on `err` fails, it took a prefix of the line, and the status is still that of the answer
+/// or of the fault, or 9, for want of memory.
 pub fn skepu<F: Files, O: Sink, E: Sink>(
     alloc: Global,
     words: &[String],

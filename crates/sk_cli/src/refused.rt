@@ -1,7 +1,7 @@
 //! Lines that tell why a source is not run.
 ghost use Rattle.std.specs.Prelude.{◌≡◌, ◌⊎◌};
 ghost use Rattle.sk_cli.specs.Answer.{Told, TookPrefix};
-ghost use Rattle.sk_cli.specs.Faults.{IsRefusedAs, line_told, reading_of, reading_of_parse, reading_of_tokens, reading_of_types};
+ghost use Rattle.sk_cli.specs.Faults.{IsRefusedAs, cause_of, cause_of_parse, cause_of_tokens, cause_of_types, line_told};
 ghost use Rattle.sk_cli.specs.Sources as lines;
 
 use crate::report::{WANT_OF_MEMORY, tell, tell_numbered, tell_want};
@@ -17,8 +17,8 @@ const REFUSED: u8 = 1;
 
 /// Tells why a source is not run.
 pub(crate) fn tell_refused<E: Sink>(alloc: Global, err: &mut E, fault: SourceFault) -> u8
-    ensures told { (result ≡ WANT_OF_MEMORY) ⊎ IsRefusedAs (reading_of fault) result (E.holds err.old) (E.holds err.new) }
-    ensures prefix { TookPrefix (line_told (reading_of fault)) (E.holds err.old) (E.holds err.new) }
+    ensures told { (result ≡ WANT_OF_MEMORY) ⊎ IsRefusedAs (cause_of fault) result (E.holds err.old) (E.holds err.new) }
+    ensures prefix { TookPrefix (line_told (cause_of fault)) (E.holds err.old) (E.holds err.new) }
 {
     match fault {
         SourceFault::Tokens(fault) => tell_token_fault(alloc, err, fault),
@@ -30,8 +30,8 @@ pub(crate) fn tell_refused<E: Sink>(alloc: Global, err: &mut E, fault: SourceFau
 }
 
 fn tell_token_fault<E: Sink>(alloc: Global, err: &mut E, fault: LexFault) -> u8
-    ensures told { (result ≡ WANT_OF_MEMORY) ⊎ IsRefusedAs (reading_of_tokens fault) result (E.holds err.old) (E.holds err.new) }
-    ensures prefix { TookPrefix (line_told (reading_of_tokens fault)) (E.holds err.old) (E.holds err.new) }
+    ensures told { (result ≡ WANT_OF_MEMORY) ⊎ IsRefusedAs (cause_of_tokens fault) result (E.holds err.old) (E.holds err.new) }
+    ensures prefix { TookPrefix (line_told (cause_of_tokens fault)) (E.holds err.old) (E.holds err.new) }
 {
     match fault {
         LexFault::NoToken { at } => tell_refusal_at(alloc, err, b"refused notoken byte ", at),
@@ -42,8 +42,8 @@ fn tell_token_fault<E: Sink>(alloc: Global, err: &mut E, fault: LexFault) -> u8
 }
 
 fn tell_parse_fault<E: Sink>(alloc: Global, err: &mut E, fault: ParseFault) -> u8
-    ensures told { (result ≡ WANT_OF_MEMORY) ⊎ IsRefusedAs (reading_of_parse fault) result (E.holds err.old) (E.holds err.new) }
-    ensures prefix { TookPrefix (line_told (reading_of_parse fault)) (E.holds err.old) (E.holds err.new) }
+    ensures told { (result ≡ WANT_OF_MEMORY) ⊎ IsRefusedAs (cause_of_parse fault) result (E.holds err.old) (E.holds err.new) }
+    ensures prefix { TookPrefix (line_told (cause_of_parse fault)) (E.holds err.old) (E.holds err.new) }
 {
     match fault {
         ParseFault::Syntax { token } => tell_refusal_at(
@@ -71,8 +71,8 @@ fn many_words(what: Limited) -> &'static [u8]
 }
 
 fn tell_type_fault<E: Sink>(alloc: Global, err: &mut E, fault: TypeFault) -> u8
-    ensures told { (result ≡ WANT_OF_MEMORY) ⊎ IsRefusedAs (reading_of_types fault) result (E.holds err.old) (E.holds err.new) }
-    ensures prefix { TookPrefix (line_told (reading_of_types fault)) (E.holds err.old) (E.holds err.new) }
+    ensures told { (result ≡ WANT_OF_MEMORY) ⊎ IsRefusedAs (cause_of_types fault) result (E.holds err.old) (E.holds err.new) }
+    ensures prefix { TookPrefix (line_told (cause_of_types fault)) (E.holds err.old) (E.holds err.new) }
 {
     match fault {
         TypeFault::Unknown { line } => tell_refusal_at(alloc, err, b"refused unknown line ", line),

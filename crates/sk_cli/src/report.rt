@@ -12,8 +12,8 @@ use std::alloc::{AllocError, Global};
 /// The status of want of memory.
 pub const WANT_OF_MEMORY: u8 = 9;
 
-/// Puts a line on the error stream, and answers the status, or that of want of memory where it was wanting for the line.
-/// A fault of the error stream changes no status.
+/// Puts a line on the error stream, and answers the status, or that of want of memory. With the status the stream took the
+/// line, or a prefix of it where a put failed; with that of want of memory it took a prefix, whether or not a put failed.
 pub fn tell<E: Sink>(alloc: Global, err: &mut E, line: &[u8], status: u8) -> u8
     ensures told { (result ≡ WANT_OF_MEMORY) ⊎ ((result ≡ status) × Told line.now (E.holds err.old) (E.holds err.new)) }
     ensures prefix { TookPrefix line.now (E.holds err.old) (E.holds err.new) }

@@ -17,7 +17,7 @@ use Rattle.sk_world.specs.World.{Trapped, World, valued}
 use Rattle.sk_arguments.specs.Arguments.{operand_kinds, reads_kind, uniform_types}
 use Rattle.sk_host.specs.Passed.{converted_by, uniform_source}
 use Rattle.sk_isa.specs.Objects.{invoked, signature_at}
-use Rattle.sk_isa.specs.SoundObjects.{HasSoundFunctions, TakesScalars}
+use Rattle.sk_isa.specs.SoundObjects.{HasSoundFunctions}
 use Rattle.sk_isa.specs.Soundness.{SuitParams, is_scalar}
 use Rattle.sk_isa.specs.declared.object.Object.{Object}
 use Rattle.sk_isa.specs.declared.object.Plan.{Plan}
@@ -30,8 +30,10 @@ use Rattle.sk_meaning.specs.Evaluation.{Argument, Value, kind_type}
 use Rattle.sk_tree.specs.declared.tree.ParamKind.{ParamKind}
 use Rattle.sk_tree.specs.declared.tree.ParamKind.TheVariants.{Scalar, Index, Proxy, Region}
 use Rattle.sk_vm.proofs.Arguments.{arguments-are, no_index}
-use Rattle.sk_vm.proofs.Given.{scalars_only}
+use Rattle.sk_vm.proofs.Given.{places_only}
+use Rattle.sk_vm.proofs.Places.{values_are_scalars}
 use Rattle.sk_vm.specs.Frames.{reading_by}
+use Rattle.sk_vm.specs.Places.{TakesPlaces}
 
 -- scalars that are all uniform arguments
 pub no_operands : (params : List ParamKind) → list_all is_scalar params ≡ true → operand_kinds 0 params ≡ []
@@ -56,13 +58,13 @@ length-map-values [] = refl
 length-map-values (value ∷ values) = ap suc (length-map-values values)
 
 -- a function with its arguments
-module _ (object : Object) (sound : HasSoundFunctions object) (scalars : TakesScalars object) (function : ℕ) (within : function < length object.functions)
+module _ (object : Object) (sound : HasSoundFunctions object) (parameters : TakesPlaces object) (function : ℕ) (within : function < length object.functions)
     (values : List ℤ) (suits : SuitParams (signature_at object function).params (map Value values)) where
   abbrev params : List ParamKind
   params = (signature_at object function).params
 
   only : list_all is_scalar params ≡ true
-  only = (scalars_only object sound scalars function within).0
+  only = values_are_scalars params values (places_only object sound parameters function within).0 suits
 
   nothing : (operand index : ℕ) → (function_meaning object function (reading_by 0 false)).reads [] 0 0 operand index ≡ true → ⊥
   nothing operand index reads =

@@ -9,33 +9,33 @@ ghost use Rattle.sk_world.specs.World.{World};
 use crate::calls::call;
 use crate::containers::{end, item, make, measure, poke};
 use crate::held::Held;
+use crate::loaded::Loaded;
 use crate::machine::{Lead, Stand};
 use crate::map_calls::map;
 use crate::values::share;
+use crate::workspace::Workspace;
 use sk_base::Cell;
-use sk_isa::{Instr, Object};
-use sk_vm::{Frame, Rooms};
+use sk_isa::Instr;
 use std::alloc::{AllocError, Global};
 
 /// Executes an instruction that neither prints nor counts.
 #[inline]
 pub fn act(
     alloc: Global,
-    object: &Object,
-    rooms: &Rooms,
+    program: &Loaded<'_>,
     instr: &Instr,
     stand: Stand,
     stack: &mut [Cell],
     slots: &mut [Cell],
     store: &mut [Option<Held>],
-    frame: &mut Frame,
+    workspace: &mut Workspace,
 ) -> Result<Lead, AllocError>
     requires address { stand.at + 1 < 2 ^ 64 }
     requires inside { stand.top ≤ length stack.old }
-    requires needs { MayAct object.now instr.now stand.top stack.old slots.old store.old }
-    requires rooms { AreRooms object.now rooms.now }
+    requires needs { MayAct program.now.object.now instr.now stand.top stack.old slots.old store.old }
+    requires rooms { AreRooms program.now.object.now program.now.rooms.now }
     ensures { IfOk result (λ lead. (world : World) → Mirrors store.old world → world.settings ≡ []
-        → Does object.now instr.now (point_at stand stack.old slots.old world) lead stack.new slots.new store.new) }
+        → Does program.now.object.now instr.now (point_at stand stack.old slots.old world) lead stack.new slots.new store.new) }
 {
     match instr {
         Instr::Size(container, method) => {
@@ -46,19 +46,25 @@ pub fn act(
         Instr::Make(container, _, ty, sizes) => {
             make(alloc, *container, *ty, *sizes, stand, stack, store)
         }
-        Instr::Drop(container) => Ok(end(*container, stand, store)),
-        Instr::Call(function) => call(alloc, object, rooms, *function, stand, stack, frame),
+        Instr::Drop(container) => Ok(end(*container, stand, store, &mut workspace.spare)),
+        Instr::Call(function) => call(
+            alloc,
+            program,
+            *function,
+            stand,
+            stack,
+            &mut workspace.frame,
+        ),
         Instr::Do(instance, containers, uniforms) => map(
             alloc,
-            object,
-            rooms,
+            program,
             *instance,
             containers.as_slice(),
             *uniforms,
             stand,
             stack,
             store,
-            frame,
+            workspace,
         ),
         _ => Ok(share(instr, stand, stack, slots)),
     }

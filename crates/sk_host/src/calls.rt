@@ -9,19 +9,19 @@ ghost use Rattle.sk_vm.specs.Points.{values_in};
 ghost use Rattle.sk_vm.specs.Rooms.{AreRooms};
 ghost use Rattle.sk_world.specs.World.{World};
 
+use crate::loaded::Loaded;
 use crate::machine::{Lead, Stand, put};
 use crate::passed::Passed;
 use sk_base::{Cell, Trap};
 use sk_isa::Object;
 use sk_kernel::At;
-use sk_vm::{Frame, Rooms};
+use sk_vm::Frame;
 use std::alloc::{AllocError, Global};
 
 /// Calls a function with the topmost values, and puts its value in their place.
 pub fn call(
     alloc: Global,
-    object: &Object,
-    rooms: &Rooms,
+    program: &Loaded<'_>,
     function: u32,
     stand: Stand,
     stack: &mut [Cell],
@@ -29,18 +29,18 @@ pub fn call(
 ) -> Result<Lead, AllocError>
     requires address { stand.at + 1 < 2 ^ 64 }
     requires inside { stand.top ≤ length stack.old }
-    requires takes { length (signature_at object.now function).params ≤ stand.top }
-    requires room { stand.top < length stack.old + length (signature_at object.now function).params }
-    requires suited { SuitParams (signature_at object.now function).params (map Value (reverse (take (length (signature_at object.now function).params) (values_in stack.old stand.top)))) }
-    requires rooms { AreRooms object.now rooms.now }
-    requires there { function < length object.now.functions }
+    requires takes { length (signature_at program.now.object.now function).params ≤ stand.top }
+    requires room { stand.top < length stack.old + length (signature_at program.now.object.now function).params }
+    requires suited { SuitParams (signature_at program.now.object.now function).params (map Value (reverse (take (length (signature_at program.now.object.now function).params) (values_in stack.old stand.top)))) }
+    requires rooms { AreRooms program.now.object.now program.now.rooms.now }
+    requires there { function < length program.now.object.now.functions }
     ensures { IfOk result (λ lead. (slots : List ℤ) (world : World)
-        → LeadsTo object.now world (Call function) (point_at stand stack.old slots world) lead stack.new slots) }
+        → LeadsTo program.now.object.now world (Call function) (point_at stand stack.old slots world) lead stack.new slots) }
 {
-    let takes = param_count(object, function);
+    let takes = param_count(program.object, function);
     let base = stand.top - takes;
     let arguments = &stack[base..stand.top];
-    match run(alloc, object, rooms, function, arguments, frame)? {
+    match run(alloc, program, function, arguments, frame)? {
         Ok(value) => {
             put(stack, base, value);
             Ok(Lead::Goes(stand.past(base + 1)))
@@ -61,20 +61,19 @@ fn param_count(object: &Object, function: u32) -> usize
 /// The value of a function for arguments, or its first trap.
 fn run(
     alloc: Global,
-    object: &Object,
-    rooms: &Rooms,
+    program: &Loaded<'_>,
     function: u32,
     arguments: &[Cell],
     frame: &mut Frame,
 ) -> Result<Result<Cell, Trap>, AllocError>
-    requires rooms { AreRooms object.now rooms.now }
-    requires there { function < length object.now.functions }
-    requires suited { SuitParams (signature_at object.now function).params (map Value arguments.now) }
-    ensures { IfOk result (λ value. value ≡ invoked object.now function (map Value arguments.now)) }
+    requires rooms { AreRooms program.now.object.now program.now.rooms.now }
+    requires there { function < length program.now.object.now.functions }
+    requires suited { SuitParams (signature_at program.now.object.now function).params (map Value arguments.now) }
+    ensures { IfOk result (λ value. value ≡ invoked program.now.object.now function (map Value arguments.now)) }
 {
-    frame.turn(alloc, object, rooms, function)?;
+    frame.turn(alloc, program.object, program.rooms, function)?;
     Ok(frame.run(
-        object,
+        program.object,
         &Passed::Function(arguments),
         At { place: 0, pair: 0 },
     ))

@@ -9,6 +9,7 @@ ghost use Rattle.sk_world.specs.World.{World};
 use crate::held::Held;
 use crate::machine::{Lead, Stand, put};
 use crate::sizes::size;
+use crate::spare::Spare;
 use sk_base::{Cell, Trap, Ty};
 use std::alloc::{AllocError, Global};
 
@@ -133,13 +134,15 @@ pub fn make(
     }
 }
 
-/// Ends a container.
-pub fn end(container: u32, stand: Stand, store: &mut [Option<Held>]) -> Lead
+/// Ends a container. Its cells may serve a later result.
+pub fn end(container: u32, stand: Stand, store: &mut [Option<Held>], spare: &mut Spare) -> Lead
     requires address { stand.at + 1 < 2 ^ 64 }
     requires there { container < length store.old }
     ensures { (object : Object) (stack slots : List ℤ) (world : World) → Mirrors store.old world
         → Does object (DropContainer container) (point_at stand stack slots world) result stack slots store.new }
 {
-    store[container as usize] = None;
+    if let Some(held) = store[container as usize].take() {
+        spare.keep(held.into_cells());
+    }
     Lead::Goes(stand.past(stand.top))
 }

@@ -6,6 +6,7 @@ ghost use Rattle.sk_host.specs.Stores.{IsPoked, element_of, made_of};
 use sk_base::{Cell, Shape, Ty, convert, flat};
 use std::alloc::{AllocError, Global};
 use std::marker::Model;
+use std::mem;
 
 /// A container of main that is there: the type of its elements, its shape, and its cells in row-major order.
 #[derive(Debug, Drop)]
@@ -85,11 +86,20 @@ impl Held {
         self.cells.as_slice()
     }
 
-    /// Gives the container new cells.
-    pub fn fill(&mut self, cells: Vec<Cell>)
+    /// Gives the container new cells, and takes those out that it had.
+    pub fn fill(&mut self, cells: Vec<Cell>) -> Vec<Cell>
         requires { length cells.items ≡ length self.old.cells }
-        ensures { self.new ≡ record self.old { cells = cells.items } }
+        ensures now { self.new ≡ record self.old { cells = cells.items } }
+        ensures before { result.items ≡ self.old.cells }
     {
-        self.cells = cells;
+        mem::replace(&mut self.cells, cells)
+    }
+
+    /// The cells of a container that ends.
+    pub fn into_cells(self) -> Vec<Cell>
+        ensures { result.items ≡ self.cells }
+    {
+        let Held { cells, .. } = self;
+        cells
     }
 }

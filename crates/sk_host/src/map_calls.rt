@@ -13,45 +13,54 @@ ghost use Rattle.sk_world.specs.World.{World};
 
 use crate::containers::held;
 use crate::held::Held;
+use crate::loaded::Loaded;
 use crate::machine::{Lead, Stand};
 use crate::maps::{are_alike, computed};
 use crate::passed::MapCall;
+use crate::spare::Spare;
+use crate::workspace::Workspace;
 use sk_base::{Cell, Trap};
 use sk_isa::{Object, Plan};
 use sk_kernel::RunTrap;
 use sk_tree::ParamKind;
-use sk_vm::{Frame, Rooms};
+use sk_vm::Frame;
 use std::alloc::{AllocError, Global};
 
 /// Calls a Map for containers, the result first, and the topmost values as its uniform arguments.
 pub fn map(
     alloc: Global,
-    object: &Object,
-    rooms: &Rooms,
+    program: &Loaded<'_>,
     instance: u32,
     containers: &[u32],
     uniforms: u32,
     stand: Stand,
     stack: &[Cell],
     store: &mut [Option<Held>],
-    frame: &mut Frame,
+    workspace: &mut Workspace,
 ) -> Result<Lead, AllocError>
     requires address { stand.at + 1 < 2 ^ 64 }
     requires inside { stand.top ≤ length stack.now }
     requires values { uniforms ≤ stand.top }
-    requires rooms { AreRooms object.now rooms.now }
-    requires there { instance < length object.now.instances }
-    requires calls { IsMapCall object.now instance containers.now uniforms store.old }
+    requires rooms { AreRooms program.now.object.now program.now.rooms.now }
+    requires there { instance < length program.now.object.now.instances }
+    requires calls { IsMapCall program.now.object.now instance containers.now uniforms store.old }
     ensures { IfOk result (λ lead. (slots : List ℤ) (world : World) → Mirrors store.old world → world.settings ≡ []
-        → Does object.now (Do instance containers.now uniforms) (point_at stand stack.now slots world) lead stack.now slots store.new) }
+        → Does program.now.object.now (Do instance containers.now uniforms) (point_at stand stack.now slots world) lead stack.now slots store.new) }
 {
     let base = stand.top - uniforms as usize;
     let given = &stack[base..stand.top];
     match compute(
-        alloc, object, rooms, instance, containers, given, store, frame,
+        alloc,
+        program,
+        instance,
+        containers,
+        given,
+        store,
+        &mut workspace.frame,
+        &mut workspace.spare,
     )? {
         Ok(cells) => {
-            refill(store, containers[0], cells);
+            workspace.spare.keep(refill(store, containers[0], cells));
             Ok(Lead::Goes(stand.past(base)))
         }
         Err(trapped) => Ok(Lead::Traps(trapped.trap, trapped.offset)),
@@ -61,18 +70,18 @@ pub fn map(
 /// What a Map computes for its result, the first of its containers: the new cells, or the trap.
 fn compute(
     alloc: Global,
-    object: &Object,
-    rooms: &Rooms,
+    program: &Loaded<'_>,
     instance: u32,
     containers: &[u32],
     uniforms: &[Cell],
     store: &[Option<Held>],
     frame: &mut Frame,
+    spare: &mut Spare,
 ) -> Result<Result<Vec<Cell>, RunTrap>, AllocError>
-    requires rooms { AreRooms object.now rooms.now }
-    requires there { instance < length object.now.instances }
-    requires calls { IsMapCall object.now instance containers.now (length uniforms.now) store.now }
-    ensures values { IfOk result (IsComputed object.now instance containers.now uniforms.now store.now) }
+    requires rooms { AreRooms program.now.object.now program.now.rooms.now }
+    requires there { instance < length program.now.object.now.instances }
+    requires calls { IsMapCall program.now.object.now instance containers.now (length uniforms.now) store.now }
+    ensures values { IfOk result (IsComputed program.now.object.now instance containers.now uniforms.now store.now) }
     ensures filled { IfOk result (HasFilled containers.now store.now) }
 {
     match containers {
@@ -82,11 +91,11 @@ fn compute(
                 let call = MapCall {
                     store,
                     operands,
-                    kinds: uniform_kinds(object, instance),
+                    kinds: uniform_kinds(program.object, instance),
                     uniforms,
                     over,
                 };
-                computed(alloc, object, rooms, instance, &call, frame)
+                computed(alloc, program, instance, &call, frame, spare)
             } else {
                 Ok(Err(RunTrap {
                     trap: Trap::Shape,
@@ -131,8 +140,8 @@ fn params<'a>(object: &'a Object, plan: &Plan) -> &'a [ParamKind]
         .as_slice()
 }
 
-/// Gives a container new cells.
-fn refill(store: &mut [Option<Held>], container: u32, cells: Vec<Cell>)
+/// Gives a container new cells, and takes those out that it had.
+fn refill(store: &mut [Option<Held>], container: u32, cells: Vec<Cell>) -> Vec<Cell>
     requires there { IsSome (kept_at store.old container) }
     requires count { (before : Kept) → kept_at store.old container ≡ Some before → length cells.items ≡ length before.cells }
     ensures { (before : Kept) → kept_at store.old container ≡ Some before

@@ -12,11 +12,12 @@ ghost use Rattle.sk_tree.specs.InstanceSettings.{default_settings};
 ghost use Rattle.sk_vm.specs.Rooms.{AreRooms};
 
 use crate::held::Held;
+use crate::loaded::Loaded;
 use crate::passed::{MapCall, Passed, shape_or};
+use crate::spare::Spare;
 use sk_base::{Cell, Shape};
-use sk_isa::Object;
 use sk_kernel::{At, Kernel, RunTrap};
-use sk_vm::{Frame, Rooms, Sharing};
+use sk_vm::{Frame, Sharing};
 use std::alloc::{AllocError, Global};
 
 /// Whether all operands have the same shape as the result.
@@ -36,6 +37,7 @@ pub fn values<K: Kernel>(
     alloc: Global,
     kernel: &mut K,
     call: &MapCall<'_>,
+    spare: &mut Spare,
 ) -> Result<Result<Vec<Cell>, RunTrap>, AllocError>
     requires few { cells_of call.now.over.now ≤ 2 ^ 24 }
     requires single { (K.means kernel.old).pairs ≡ false }
@@ -47,32 +49,35 @@ pub fn values<K: Kernel>(
     ensures same { K.means kernel.new ≡ K.means kernel.old }
 {
     let count = call.over.cells() as usize;
-    let mut cells = vec![in alloc; 0; count]?;
+    let mut cells = spare.take(alloc, count)?;
     match kernel.apply_each(&Passed::Map(call), At { place: 0, pair: 0 }, &mut cells) {
         Ok(()) => Ok(Ok(cells)),
-        Err(trapped) => Ok(Err(trapped)),
+        Err(trapped) => {
+            spare.keep(cells);
+            Ok(Err(trapped))
+        }
     }
 }
 
 /// The values of an instance at each place of the result.
 pub fn computed(
     alloc: Global,
-    object: &Object,
-    rooms: &Rooms,
+    program: &Loaded<'_>,
     instance: u32,
     call: &MapCall<'_>,
     frame: &mut Frame,
+    spare: &mut Spare,
 ) -> Result<Result<Vec<Cell>, RunTrap>, AllocError>
     requires few { cells_of call.now.over.now ≤ 2 ^ 24 }
-    requires rooms { AreRooms object.now rooms.now }
-    requires there { instance < length object.now.instances }
-    requires may { (plan : Plan) → slice_get object.now.instances instance ≡ Some plan
-        → MayMap object.now plan call.now.store.now call.now.operands.now call.now.kinds.now call.now.uniforms.now call.now.over.now }
-    ensures values { (plan : Plan) (cells : ℕ → ℕ → ℤ) → slice_get object.now.instances instance ≡ Some plan
-        → AgreeRun (instance_meaning object.now plan default_settings) (map_source call.now) 0 0 (cells_of call.now.over.now) cells
-        → IfOk result (IsMap (value_for (instance_meaning object.now plan default_settings) (given_by (map_source call.now) cells)) (cells_of call.now.over.now)) }
+    requires rooms { AreRooms program.now.object.now program.now.rooms.now }
+    requires there { instance < length program.now.object.now.instances }
+    requires may { (plan : Plan) → slice_get program.now.object.now.instances instance ≡ Some plan
+        → MayMap program.now.object.now plan call.now.store.now call.now.operands.now call.now.kinds.now call.now.uniforms.now call.now.over.now }
+    ensures values { (plan : Plan) (cells : ℕ → ℕ → ℤ) → slice_get program.now.object.now.instances instance ≡ Some plan
+        → AgreeRun (instance_meaning program.now.object.now plan default_settings) (map_source call.now) 0 0 (cells_of call.now.over.now) cells
+        → IfOk result (IsMap (value_for (instance_meaning program.now.object.now plan default_settings) (given_by (map_source call.now) cells)) (cells_of call.now.over.now)) }
     ensures count { IfOk result (IsFilled (cells_of call.now.over.now)) }
 {
-    let mut kernel = Sharing::new(alloc, object, rooms, instance, frame)?;
-    values(alloc, &mut kernel, call)
+    let mut kernel = Sharing::new(alloc, program.object, program.rooms, instance, frame)?;
+    values(alloc, &mut kernel, call, spare)
 }

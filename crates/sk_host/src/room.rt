@@ -5,20 +5,21 @@ ghost use Rattle.sk_isa.specs.SoundObjects.{HasSoundFunctions, TakesScalars};
 ghost use Rattle.sk_vm.specs.Rooms.{AreRooms};
 
 use crate::held::Held;
+use crate::spare::Spare;
+use crate::workspace::Workspace;
 use sk_base::Cell;
 use sk_isa::Object;
 use sk_vm::{Frame, Rooms};
 use std::alloc::{AllocError, Global};
 
-/// A stack and slots, places for containers, and a frame with room for each function, which serves all functions and instances
-/// in turns.
+/// A stack and slots, places for containers, what a frame needs that is to serve all functions, and a workspace with such a frame.
 #[derive(Drop)]
 pub struct Room {
     pub stack: Vec<Cell>,
     pub slots: Vec<Cell>,
     pub store: Vec<Option<Held>>,
     pub rooms: Rooms,
-    pub frame: Frame,
+    pub workspace: Workspace,
 }
 
 impl Room {
@@ -36,7 +37,10 @@ impl Room {
             slots: vec![in alloc; 0; object.main.slots as usize]?,
             store: places(alloc, object.containers.len())?,
             rooms,
-            frame,
+            workspace: Workspace {
+                frame,
+                spare: Spare::new(),
+            },
         })
     }
 }

@@ -8,14 +8,15 @@ ghost use Rattle.sk_main_code.specs.Vectors.{IsVectorObject};
 ghost use Rattle.sk_vm.specs.Rooms.{AreRooms};
 
 use crate::held::Held;
+use crate::loaded::Loaded;
 use crate::machine::{Stand, State};
 use crate::outcome::Outcome;
 use crate::room::Room;
 use crate::turn::turn;
+use crate::workspace::Workspace;
 use sk_base::Cell;
 use sk_isa::{Instr, Object};
 use sk_outside::Sink;
-use sk_vm::{Frame, Rooms};
 use std::alloc::Global;
 
 /// Runs the main of a compiled program of vectors, which may execute so many statements.
@@ -27,8 +28,9 @@ use std::alloc::Global;
 ///   other sizes than the result.
 /// - Errors: where a put fails or memory is wanting, the run is cut off.
 /// - Cost: the stack, the slots, the places for containers, and one frame for all functions and instances are taken once, at the
-///   start. Of the instructions only those that make a container or call a Map take memory, for its cells; a put may take some
-///   where the sink does. Items are printed one by one, each by a put of its own.
+///   start. Of the instructions only those that make a container or call a Map take memory, for its cells; a Map takes none where
+///   an earlier one, or a container that ended, left as many. At most one such buffer is kept beside the live containers. A put
+///   may take memory where the sink does. Items are printed one by one, each by a put of its own.
 pub fn execute<O: Sink>(alloc: Global, object: &Object, bound: u64, out: &mut O) -> Outcome
     requires sound { IsSound object.now }
     requires vectors { IsVectorObject object.now }
@@ -42,41 +44,52 @@ pub fn execute<O: Sink>(alloc: Global, object: &Object, bound: u64, out: &mut O)
         mut slots,
         mut store,
         rooms,
-        mut frame,
+        mut workspace,
     } = room;
+    let program = Loaded {
+        object,
+        rooms: &rooms,
+    };
     let state = State {
         stand: Stand { at: 0, top: 0 },
         left: bound,
         line: 0,
     };
     run(
-        alloc, object, &rooms, bound, state, &mut stack, &mut slots, &mut store, &mut frame, out,
+        alloc,
+        &program,
+        bound,
+        state,
+        &mut stack,
+        &mut slots,
+        &mut store,
+        &mut workspace,
+        out,
     )
 }
 
 /// Executes instructions from where a run stands until it is over.
 fn run<O: Sink>(
     alloc: Global,
-    object: &Object,
-    rooms: &Rooms,
+    program: &Loaded<'_>,
     bound: u64,
     start: State,
     stack: &mut [Cell],
     slots: &mut [Cell],
     store: &mut [Option<Held>],
-    frame: &mut Frame,
+    workspace: &mut Workspace,
     out: &mut O,
 ) -> Outcome
-    requires rooms { AreRooms object.now rooms.now }
-    requires underway { IsUnderway object.now bound start (record { stack = stack.old; slots = slots.old; store = store.old }) (O.holds out.old) (O.holds out.old) }
-    ensures { IsOutcome (coded_of object.now [] bound false) (O.holds out.old) (O.holds out.new) result }
+    requires rooms { AreRooms program.now.object.now program.now.rooms.now }
+    requires underway { IsUnderway program.now.object.now bound start (record { stack = stack.old; slots = slots.old; store = store.old }) (O.holds out.old) (O.holds out.old) }
+    ensures { IsOutcome (coded_of program.now.object.now [] bound false) (O.holds out.old) (O.holds out.new) result }
 {
-    let instrs = object.main.instrs.as_slice();
+    let instrs = program.object.main.instrs.as_slice();
     let mut state = start;
     loop {
         let instr = instr_at(instrs, state.stand.at);
         match turn(
-            alloc, object, rooms, instr, state, stack, slots, store, frame, out,
+            alloc, program, instr, state, stack, slots, store, workspace, out,
         ) {
             Ok(next) => state = next,
             Err(outcome) => return outcome,

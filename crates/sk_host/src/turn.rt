@@ -13,35 +13,35 @@ ghost use Rattle.sk_world.specs.World.{World};
 
 use crate::act::act;
 use crate::held::Held;
+use crate::loaded::Loaded;
 use crate::machine::{Lead, State, last};
 use crate::outcome::Outcome;
 use crate::printing::{print, print_number};
+use crate::workspace::Workspace;
 use sk_base::Cell;
-use sk_isa::{Instr, Object};
+use sk_isa::Instr;
 use sk_outside::Sink;
-use sk_vm::{Frame, Rooms};
 use std::alloc::Global;
 
 /// Executes an instruction of main.
 #[inline]
 pub fn turn<O: Sink>(
     alloc: Global,
-    object: &Object,
-    rooms: &Rooms,
+    program: &Loaded<'_>,
     instr: &Instr,
     state: State,
     stack: &mut [Cell],
     slots: &mut [Cell],
     store: &mut [Option<Held>],
-    frame: &mut Frame,
+    workspace: &mut Workspace,
     out: &mut O,
 ) -> Result<State, Outcome>
     requires address { state.stand.at + 1 < 2 ^ 64 }
     requires inside { state.stand.top ≤ length stack.old }
-    requires needs { MayTurn object.now instr.now state.stand.top stack.old slots.old store.old }
-    requires rooms { AreRooms object.now rooms.now }
+    requires needs { MayTurn program.now.object.now instr.now state.stand.top stack.old slots.old store.old }
+    requires rooms { AreRooms program.now.object.now program.now.rooms.now }
     ensures { (world : World) → Mirrors store.old world → world.settings ≡ [] → world.statements_left ≡ state.left → world.line ≡ state.line
-        → Turns object.now instr.now (point_at state.stand stack.old slots.old world) result stack.new slots.new store.new (O.holds out.old) (O.holds out.new) }
+        → Turns program.now.object.now instr.now (point_at state.stand stack.old slots.old world) result stack.new slots.new store.new (O.holds out.old) (O.holds out.new) }
 {
     match instr {
         Instr::Count(line) => count(*line, state),
@@ -49,9 +49,7 @@ pub fn turn<O: Sink>(
         Instr::Text(text) => print_text(alloc, text.as_bytes(), state, out),
         Instr::Endl => print_text(alloc, b"\n", state, out),
         Instr::Halt => Err(Outcome::End),
-        _ => step(
-            alloc, object, rooms, instr, state, stack, slots, store, frame,
-        ),
+        _ => step(alloc, program, instr, state, stack, slots, store, workspace),
     }
 }
 
@@ -118,32 +116,30 @@ fn print_text<O: Sink>(
 #[inline]
 fn step(
     alloc: Global,
-    object: &Object,
-    rooms: &Rooms,
+    program: &Loaded<'_>,
     instr: &Instr,
     state: State,
     stack: &mut [Cell],
     slots: &mut [Cell],
     store: &mut [Option<Held>],
-    frame: &mut Frame,
+    workspace: &mut Workspace,
 ) -> Result<State, Outcome>
     requires address { state.stand.at + 1 < 2 ^ 64 }
     requires inside { state.stand.top ≤ length stack.old }
-    requires needs { MayAct object.now instr.now state.stand.top stack.old slots.old store.old }
-    requires rooms { AreRooms object.now rooms.now }
+    requires needs { MayAct program.now.object.now instr.now state.stand.top stack.old slots.old store.old }
+    requires rooms { AreRooms program.now.object.now program.now.rooms.now }
     ensures { (world : World) (sink : SinkHolding) → Mirrors store.old world → world.settings ≡ [] → world.statements_left ≡ state.left → world.line ≡ state.line
-        → Turns object.now instr.now (point_at state.stand stack.old slots.old world) result stack.new slots.new store.new sink sink }
+        → Turns program.now.object.now instr.now (point_at state.stand stack.old slots.old world) result stack.new slots.new store.new sink sink }
 {
     match act(
         alloc,
-        object,
-        rooms,
+        program,
         instr,
         state.stand,
         stack,
         slots,
         store,
-        frame,
+        workspace,
     ) {
         Ok(Lead::Goes(stand)) => Ok(State { stand, ..state }),
         Ok(Lead::Traps(trap, element)) => Err(Outcome::Trapped {

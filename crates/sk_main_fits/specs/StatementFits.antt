@@ -111,7 +111,8 @@ abbrev pub for_fits : Judged → Expr → (step : Judged) → (body : List Judge
 for_fits first test step body functions standing =
     first.is_light && first.fits functions standing && loop_fits test body step functions (first.emits functions standing).behind
 
--- a statement alone
+-- a statement, alone or with others inside: what it is compiled to, whether a `for` may begin with it, whether it is an
+-- assignment, and the test whether it fits
 abbrev pub judged_by : Emitting → (light step : Bool) → Test → Judged
 judged_by emits light step test = record { emits = emits; fits = test; is_light = light; is_step = step }
 

@@ -1,7 +1,7 @@
 -- A source's answer is its run, or the line of its refusal.
 use Rattle.std.proofs.Common.{rules, ◌≡◌, ◌⊎◌, ◌≤◌, ℕ, List, [], true, false, Err, length, ap, sym, subst, inl, inr}
 use Rattle.sk_cli.specs.Answer.{Answer, IsAnswerToBytes, IsOfRun, Took, ran_alone, statement_limit}
-use Rattle.sk_cli.specs.Faults.{TellsSource, reading_of}
+use Rattle.sk_cli.specs.Faults.{TellsSource, cause_of}
 use Rattle.sk_cli.specs.Sources.{SpellsTyped, source_limit}
 use Rattle.sk_cli.proofs.Refusals.{refusal-answered, told-answer, told-want}
 use Rattle.sk_cli.proofs.Runs.{ran-of_run, run-answer}
@@ -44,12 +44,12 @@ pub returns-in-Err-clause-answered : goal.returns-in-Err-clause-answered
 returns-in-Err-clause-answered g c =
     let silent : Took [] (g.O.Sink.holds c.args.out.now) (g.O.Sink.holds c.args.out.now) = search rules in
     inr (told-answer c.args.source.now c.tell_refused.result (g.O.Sink.holds c.args.out.now) (g.E.Sink.holds c.args.err.now)
-    (g.E.Sink.holds c.tell_refused.new.err) silent (reading_of c.in-Err.fault)
+    (g.E.Sink.holds c.tell_refused.new.err) silent (cause_of c.in-Err.fault)
     (refusal-answered c.args.source.now c.requires c.in-Err.fault c.in-Err.ensures.fault) c.tell_refused.ensures.told)
 
 pub returns-in-Err-clause-memory : goal.returns-in-Err-clause-memory
 returns-in-Err-clause-memory g c wanting command reads reads' =
     let silent : Took [] (g.O.Sink.holds c.args.out.now) (g.O.Sink.holds c.args.out.now) = search rules in
     told-want c.args.source.now c.tell_refused.result (g.O.Sink.holds c.args.out.now) (g.E.Sink.holds c.args.err.now)
-    (g.E.Sink.holds c.tell_refused.new.err) silent (reading_of c.in-Err.fault)
+    (g.E.Sink.holds c.tell_refused.new.err) silent (cause_of c.in-Err.fault)
     (refusal-answered c.args.source.now c.requires c.in-Err.fault c.in-Err.ensures.fault) c.tell_refused.ensures.prefix command reads reads'

@@ -11,10 +11,10 @@ returns-in-Ok c slots world mirrors unset =
     let call = c.requires.calls in
     let base = c.args.stand.top - c.args.uniforms in
     let given = take (c.args.stand.top - base) (drop base c.args.stack.now) in
-    let is_computed = subst (λ made. IsComputed c.args.object.now c.args.instance c.args.containers.now given c.args.store.now made) c.in-Ok.is c.in_ok-cells.ensures.values in
+    let is_computed = subst (λ made. IsComputed c.args.program.now.object.now c.args.instance c.args.containers.now given c.args.store.now made) c.in-Ok.is c.in_ok-cells.ensures.values in
     let comes = is_computed call.plan call.result call.operands world call.plan_is call.containers_are mirrors unset in
     let first = first_is c.args.containers.now call.result call.operands call.containers_are in
-    do-goes c.args.object.now c.args.instance c.args.containers.now c.args.uniforms c.args.store.now call c.args.stand c.args.stack.now slots world mirrors c.requires.values c.requires.inside
+    do-goes c.args.program.now.object.now c.args.instance c.args.containers.now c.args.uniforms c.args.store.now call c.args.stand c.args.stack.now slots world mirrors c.requires.values c.requires.inside
     c.past.result c.refill.new.store c.in-Ok.cells.items comes.0 comes.1
     (c.refill.ensures call.kept (ap (kept_at c.args.store.now) first ∙ call.kept_is)
     ∙ ap (λ (n : ℕ). slice_set c.args.store.now n (Some (record call.kept { cells = c.in-Ok.cells.items }))) first)
@@ -25,7 +25,7 @@ returns-in-Err c slots world mirrors unset =
     let call = c.requires.calls in
     let base = c.args.stand.top - c.args.uniforms in
     let given = take (c.args.stand.top - base) (drop base c.args.stack.now) in
-    let is_computed = subst (λ made. IsComputed c.args.object.now c.args.instance c.args.containers.now given c.args.store.now made) c.in-Err.is c.in_ok-cells.ensures.values in
+    let is_computed = subst (λ made. IsComputed c.args.program.now.object.now c.args.instance c.args.containers.now given c.args.store.now made) c.in-Err.is c.in_ok-cells.ensures.values in
     let comes = is_computed call.plan call.result call.operands world call.plan_is call.containers_are mirrors unset in
-    do-traps c.args.object.now c.args.instance c.args.containers.now c.args.uniforms c.args.store.now call c.args.stand c.args.stack.now slots world mirrors c.requires.values c.requires.inside
+    do-traps c.args.program.now.object.now c.args.instance c.args.containers.now c.args.uniforms c.args.store.now call c.args.stand c.args.stack.now slots world mirrors c.requires.values c.requires.inside
     c.in-Err.trapped.trap c.in-Err.trapped.offset comes.0 comes.1 comes.2 comes.3 c.args.store.now

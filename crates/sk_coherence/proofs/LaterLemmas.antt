@@ -11,7 +11,7 @@ use Rattle.sk_copy_states.specs.Copies.{KeepsStates, ReachesIn, home_in, home_st
 use Rattle.sk_copy_states.specs.Sources.{LiesIn, MayRead, NoneNear}
 use Rattle.sk_copy_states.specs.Stores.{copies_in}
 use Rattle.sk_coherence_laws.specs.Directory.{DirectoryView, copy_at, store_at, IsSound}
-use Rattle.sk_coherence_laws.specs.Moves.{CanMove, Fills, Idles, IsStaleAt}
+use Rattle.sk_coherence_laws.specs.Moves.{CanMove, Fills, Idles, IsStaleAt, IsSourceAt}
 use Rattle.sk_coherence_laws.specs.Serves.{GrowsAt}
 use Rattle.sk_coherence_laws.specs.Acquires.{PinsOne}
 use Rattle.sk_coherence_laws.specs.Steps.{Traces, IsAlloc, IsDue, StandsIn, lie_apart}
@@ -308,10 +308,10 @@ close-step m d from to l there some close = ⊎_elim
 
 -- room in the journal, and then a fill that is not from afar
 pub sum-near : (a b n : DirectoryView) (from to lo hi : ℕ) → IsSound b → Idles a b → CanMove b from to lo hi → IsStaleAt b to lo hi → Fills b n from to lo hi
-    → TracesStep b n (Copy from to lo hi) → IsClose b from to → Traces IsFillNear a n
-sum-near a b n from to lo hi sb i can missing f t close = traces-trans IsFillNear a b n (traces-idle IsFillNear a b i)
+    → TracesStep b n (Copy from to lo hi) → IsSourceAt b from to lo hi → IsClose b from to → Traces IsFillNear a n
+sum-near a b n from to lo hi sb i can missing f t source close = traces-trans IsFillNear a b n (traces-idle IsFillNear a b i)
     (traces-one IsFillNear b n (Copy from to lo hi) f.rest.noted t
-    (λ m l. (is-fill m b from to lo hi l can.target missing, close-step m b from to l can.source can.target close))
+    (λ m l. (is-fill m b from to lo hi l can.source can.target missing source, close-step m b from to l can.source can.target close))
     (λ m l. far_same m b from to sb l))
 
 -- steps into a copy that is on the host before them and between them

@@ -1,13 +1,10 @@
 -- Copies on ranks that keep their states while others are acquired or go.
-use Rattle.std.proofs.Common.{◌≡◌, ◌≢◌, ℕ, ◌<◌, Option, Some, None, IfSome, IsSome, arith, ⊎_elim, refl, sym, subst, ◌∙◌, ap, ◌⊎◌}
+use Rattle.std.proofs.Common.{◌≡◌, ◌≢◌, ℕ, ◌<◌, Option, Some, None, IfSome, IsSome, arith, ⊎_elim, refl, sym, subst, ◌∙◌, ap}
 use Rattle.sk_spaces.specs.Machine.{Home}
 use Rattle.sk_copy_states.specs.declared.held.Held.{Held}
 use Rattle.sk_copy_states.specs.Copies.{KeepsStates, home_in, pins_in}
 use Rattle.sk_copy_states.proofs.RoomLemmas.{kept-trans}
 use Rattle.sk_coherence_laws.specs.Directory.{DirectoryView, copy_at}
-use Rattle.sk_coherence_laws.specs.Adds.{Places}
-use Rattle.sk_coherence_laws.specs.Moves.{Idles}
-use Rattle.sk_coherence_laws.specs.Acquires.{PinsOne}
 use Rattle.sk_coherence_laws.specs.Serves.{Serves, GrowsAt, WasEvicted}
 use Rattle.sk_coherence_laws.proofs.KeptLemmas.{keeps_same}
 use Rattle.sk_coherence_laws.proofs.TracedWrite.{some_home}

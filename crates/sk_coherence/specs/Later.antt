@@ -2,14 +2,14 @@
 use Rattle.std.specs.Prelude.{◌≡◌, ◌≢◌, ℕ, ◌<◌, ◌≤◌, false, List, [], ◌∷◌, Option, Some, None, ◌⊎◌}
 use Rattle.sk_spaces.specs.declared.step.Step.{Step}
 use Rattle.sk_spaces.specs.declared.step.Step.TheVariants.{Copy}
-use Rattle.sk_spaces.specs.Machine.{Machine, stale}
+use Rattle.sk_spaces.specs.Machine.{Machine}
 use Rattle.sk_copies.specs.declared.Transfer.{Transfer}
 use Rattle.sk_copy_states.specs.declared.held.Held.{Held}
 use Rattle.sk_copy_states.specs.Copies.{store_in}
 use Rattle.sk_copy_states.specs.Sources.{MayRead}
 use Rattle.sk_coherence_laws.specs.Directory.{DirectoryView, copy_at}
 use Rattle.sk_coherence_laws.specs.Moves.{CanMove, IsStaleAt}
-use Rattle.sk_coherence_laws.specs.Steps.{IsAlloc, StandsIn, lie_apart}
+use Rattle.sk_coherence_laws.specs.Steps.{IsAlloc, IsFill, StandsIn, lie_apart}
 use Rattle.sk_coherence.specs.Evicts.{IsIn, IsOnHost}
 use Rattle.sk_coherence.specs.Room.{IsYielding}
 
@@ -53,17 +53,17 @@ IsMade m step = (s : ℕ) × (space : ℕ) × (lo : ℕ) × (hi : ℕ) × IsAllo
 abbrev pub IsClose : DirectoryView → ℕ → ℕ → Type 0
 IsClose d from to = IsOnHost (copy_at d to) ⊎ LieTogether (copy_at d from) (copy_at d to)
 
--- cells are filled where they were stale, in a copy on the host or from its own space
+-- cells are filled as they have to be, in a copy on the host or from its own space
 abbrev pub IsFillNear : Machine → Step → Type 0
 IsFillNear m (Copy source target lo hi) =
-    ((i : ℕ) → lo ≤ i → i < hi → m.marks target i ≡ stale) × (StandsIn 0 (m.copies target) ⊎ (lie_apart (m.copies source) (m.copies target) ≡ false))
+    IsFill m (Copy source target lo hi) × (StandsIn 0 (m.copies target) ⊎ (lie_apart (m.copies source) (m.copies target) ≡ false))
 IsFillNear m _ = ⊥
 
--- a copy is made, or cells are filled where they were stale, but not from afar on a rank
+-- a copy is made, or stale cells are filled, but not from afar on a rank
 abbrev pub IsLater : Machine → Step → Type 0
 IsLater m step = IsMade m step ⊎ IsFillNear m step
 
--- why an acquire of so many cells on a rank that leaves messages to do takes a step: as one that fills nothing, or cells are filled
--- where they were stale, but not from afar on a rank
+-- why an acquire of so many cells on a rank that leaves messages to do takes a step: as one that fills nothing, or stale cells are
+-- filled, but not from afar on a rank
 abbrev pub IsDueLater : ℕ → ℕ → ℕ → Machine → Step → Type 0
 IsDueLater capacity space len m step = IsYielding capacity space len m step ⊎ IsFillNear m step

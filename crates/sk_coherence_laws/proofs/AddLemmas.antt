@@ -13,10 +13,11 @@ use Rattle.sk_copy_states.specs.Held.{IsFit, IsFresh, mark_of}
 use Rattle.sk_copy_states.specs.Copies.{KeepsStates, pins_in, expected_in, ChangesCopy, home_in, store_in, state_in, cell_in}
 use Rattle.sk_copy_states.specs.Stores.{StoreView, PutsStore, copies_in, changes_in, AreRising, HasTile, IsBlockOf, with_copy}
 use Rattle.sk_coherence_laws.specs.Directory.{DirectoryView, copy_at, store_at, cells_of_copy, block_home, IsSound, AreCoherent, LiesInside}
-use Rattle.sk_coherence_laws.specs.Traced.{IsLike, IsLineOf, live_home}
+use Rattle.sk_messages.specs.Messages.{MessagesView, mail_of, next_of}
+use Rattle.sk_coherence_laws.specs.Traced.{IsLike, IsLineOf, HasMessages, live_home}
 use Rattle.sk_coherence_laws.specs.Serves.{HasOwner}
 use Rattle.sk_coherence_laws.proofs.InsideLemmas.{lens_on}
-use Rattle.sk_coherence_laws.proofs.MailLemmas.{StaysOrNew, stays_so, mailed-kept, like-mail-kept}
+use Rattle.sk_coherence_laws.proofs.MailLemmas.{StaysOrNew, stays_so, mailed-kept, like-mail-same, like-mail-beside}
 use Rattle.sk_spaces.specs.Spaces.{Stays}
 use Rattle.sk_coherence_laws.specs.Moves.{Idles}
 use Rattle.sk_coherence_laws.specs.Adds.{AddsCopy}
@@ -217,7 +218,7 @@ module _ (d n : DirectoryView) (id s space lo hi : ℕ) (st : StoreView) (held :
     new_copies = λ q above. a.copies.others q (λ e. omega (arith, above, e, a.memories.next, a.memories.number)) ∙ sound.new_copies q (omega (arith, above, a.memories.next));
     new_stores = λ t above. a.stores.others t (λ e. some_store (store_at d t) (ap (store_at d) e ∙ a.store) (sound.new_stores t (omega (arith, above, a.next)))) ∙ sound.new_stores t (omega (arith, above, a.next));
     coherent = coherent_now;
-    mailed = mailed-kept d n sound.mailed a.messages a.aside (omega (arith, a.memories.next)) stays_now owner_before;
+    mailed = mailed-kept d n sound.mailed a.messages a.aside (omega (arith, a.memories.next)) (omega (arith, a.next)) stays_now owner_before;
   }
     where
       some_store : (o : Option StoreView) → o ≡ Some st → o ≡ None → ⊥
@@ -260,6 +261,14 @@ module _ (d n : DirectoryView) (id s space lo hi : ℕ) (st : StoreView) (held :
       (λ (ne : t ≢ s). subst (λ (o : Option StoreView). IfSome o (λ store. IsSomeAnd (m.stores t) (IsLineOf store))) (sym (a.stores.others t ne)) (l.stores t))
       (cases_eq t s)
 
+  -- no message goes to the new copy
+  messages_like : (m : Machine) → IsLike m d
+      → HasMessages m.messages (replaced m.copies id (live (record { store = s; space = space; lo = lo; hi = hi }))) n
+  messages_like m l = like-mail-same m.messages (replaced m.copies id (live (record { store = s; space = space; lo = lo; hi = hi }))) d n
+      (like-mail-beside m.messages m.copies (replaced m.copies id (live (record { store = s; space = space; lo = lo; hi = hi }))) d l.messages
+      (λ q below gone. ap live_home (replaced_else m.copies id (live (record { store = s; space = space; lo = lo; hi = hi })) q (λ e. omega (arith, below, e, a.memories.number))) ∙ gone))
+      (λ number. ap (λ (x : MessagesView). mail_of x number) a.messages) (ap next_of a.messages) (omega (arith, a.memories.next))
+
   -- the machine is like the directory with the copy
   pub like-added : (m : Machine) → IsLike m d → IsLike (after m (Alloc id s space lo hi)) n
   like-added m l = record {
@@ -274,7 +283,7 @@ module _ (d n : DirectoryView) (id s space lo hi : ℕ) (st : StoreView) (held :
     cells = λ q i readable. let qn = a.copies.others q (not_new q i readable) in
         l.cells q i (λ e. readable (ap (λ o. state_in o i) qn ∙ e)) ∙ ap (λ o. cell_in o i) (sym (a.memories.blocks.others q (not_new q i readable)));
     used = used_now m l;
-    messages = like-mail-kept m.messages d n l.messages a.messages;
+    messages = messages_like m l;
   }
 
 take_held : (o : Option Held) (P : Held → Type 0) → IsSome o → IfSome o P → (held : Held) × (o ≡ Some held) × P held

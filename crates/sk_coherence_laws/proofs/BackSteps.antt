@@ -91,7 +91,7 @@ module _ (d n : DirectoryView) (from to lo hi : ℕ) (sound : IsSound d) (can : 
   sound-back owed ready = sound-reshaped d n sound reshapes
       (back.coherent (copy_at d) (copy_at n) (cells_of_copy d) (cells_of_copy n) from to lo hi can.apart target source others values ch.memories.blocks.others
       can.store owns sound.coherent)
-      (mailed-so d n sound.mailed messages aside ch.memories.next homes expected_kept owner_before)
+      (mailed-so d n sound.mailed messages aside ch.memories.next next homes expected_kept owner_before)
       owed ready
 
   mark_in : (m : Machine) → IsLike m d → (q i : ℕ) → lo ≤ i → i < hi → IsSome (copy_at n q)
@@ -150,7 +150,7 @@ module _ (d n : DirectoryView) (from to lo hi : ℕ) (sound : IsSound d) (can : 
       (λ q i some. within_or ((hands_over from to lo hi m).marks q i ≡ mark_of (state_in (copy_at n q) i)) lo hi i
       (λ above below. mark_in m l q i above below some) (λ out. mark_out m l q i out some))
       (cell_now m l)
-      (like-mail-kept m.messages d n l.messages messages)
+      (like-mail-kept m.messages m.copies d n l.messages messages ch.memories.next)
 
   pub traced-back : TracesStep d n (Back from to lo hi)
   traced-back m l = (

@@ -3,7 +3,6 @@ use Rattle.std.proofs.Common.{◌≡◌, ◌≢◌, ℕ, ◌+◌, ◌-◌, ◌<�
 use Rattle.std.proofs.lemmas.Bool.{cases_eq}
 use Rattle.sk_ranges.specs.declared.state.State.TheVariants as state
 use Rattle.sk_spaces.specs.declared.step.Step.TheVariants.{Stale}
-use Rattle.sk_spaces.specs.Journal.{IsSame}
 use Rattle.sk_spaces.specs.Machine.{Machine, Home, CopyState, stale, owner, stales, is_copy_of, is_within}
 use Rattle.sk_spaces.specs.Rules.{IsThere}
 use Rattle.sk_spaces.specs.Memories.{block_of}
@@ -13,14 +12,14 @@ use Rattle.sk_copy_states.specs.Held.{mark_of}
 use Rattle.sk_copy_states.specs.Copies.{LiesAmong, held_in, home_in, home_store, store_in, state_in}
 use Rattle.sk_copy_states.specs.Stores.{StoreView, store_of, copies_in, changes_in, len_in, AreRising, HasTile}
 use Rattle.sk_copy_states.proofs.InBlock.{in_block}
-use Rattle.sk_coherence_laws.specs.Directory.{DirectoryView, copy_at, store_at, IsSound, LiesInside}
-use Rattle.sk_messages.specs.Messages.{MessagesView, Spoils}
-use Rattle.sk_coherence_laws.specs.Traced.{IsLike, IsLineOf}
+use Rattle.sk_coherence_laws.specs.Directory.{DirectoryView, copy_at, store_at, cells_of_copy, mail_at, IsSound, IsMail, LiesInside}
+use Rattle.sk_messages.specs.Messages.{MessagesView, Mail, Spoils}
+use Rattle.sk_coherence_laws.specs.Traced.{IsLike, IsLineOf, live_home}
 use Rattle.sk_coherence_laws.specs.Serves.{unlisted}
 use Rattle.sk_coherence_laws.specs.Retires.{Thins, Closes, IsClosing, IsFreeing, IsOwnedIn, IsLikeBut, Leads}
 use Rattle.sk_coherence_laws.proofs.StateLemmas.{stale_not_owner, owner_not_stale}
 use Rattle.sk_coherence_laws.proofs.OpenLemmas.{some_of}
-use Rattle.sk_coherence_laws.proofs.MailLemmas.{mailed-spoilt-so, like-mail-fewer, like-mail-spoilt, spoilt-between}
+use Rattle.sk_coherence_laws.proofs.MailLemmas.{mailed-spoilt-so, like-mail-fewer, like-mail-spoilt}
 use Rattle.sk_coherence_laws.proofs.TracedWrite.{live_of, copy_of, not_copy_of, within_yes, within_no, and_yes, and_no}
 use Rattle.sk_coherence_laws.proofs.FillLemmas.{within_or}
 use Rattle.sk_coherence_laws.proofs.LegalMoves.{not_owner_mark}
@@ -29,6 +28,12 @@ use Rattle.sk_coherence_laws.proofs.PlacedLemmas.{placed-like}
 use Rattle.sk_coherence_laws.proofs.StaleLemmas.{inside-line}
 use Rattle.sk_coherence_laws.proofs.LeadsLemmas.{leads-trans, leads-map, leads-end, leads-one, leads-none}
 use Rattle.sk_coherence_laws.proofs.LeaveLemmas.{among_all, among_there, store_among, but-like, like-but, gone_among}
+
+-- a message of a store goes to none of another one
+none_home : (o : Option Home) (mail : Mail) (s : ℕ) → IfSome o (λ home. (home.store ≡ mail.store) × (home.lo ≤ mail.lo) × (mail.hi ≤ home.hi))
+    → mail.store ≡ s → home_store o ≢ Some s → o ≡ None
+none_home None mail s is of none = refl
+none_home (Some home) mail s is of none = absurd (none (ap Some (is.0 ∙ of)))
 
 -- messages over some indices of a store are forgotten, and no step is noted
 module _ (d : DirectoryView) (messages : MessagesView) (s lo hi : ℕ) (spoilt : Spoils d.messages messages s lo hi) where
@@ -51,12 +56,13 @@ module _ (d : DirectoryView) (messages : MessagesView) (s lo hi : ℕ) (spoilt :
     new_copies = sound.new_copies;
     new_stores = sound.new_stores;
     coherent = sound.coherent;
-    mailed = mailed-spoilt-so d forgetting s lo hi sound.mailed spoilt refl refl (λ q. refl) (λ q. refl)
+    mailed = mailed-spoilt-so d forgetting s lo hi sound.mailed spoilt refl refl refl (λ q. refl) (λ q. refl)
         (λ q i own. inr (record { at = q; store = refl; owns = own; cell = refl }));
   }
 
-  pub like-forgetting : (m : Machine) → IsLike m d → IsLike m forgetting
-  like-forgetting m l = record {
+  -- where the store has no copies, each of them has lost its copy
+  pub like-forgetting : IsSound d → ((q : ℕ) → store_in (copy_at d q) ≢ Some s) → (m : Machine) → IsLike m d → IsLike m forgetting
+  like-forgetting sound none m l = record {
     memory = l.memory;
     stores = l.stores;
     new_stores = l.new_stores;
@@ -65,8 +71,13 @@ module _ (d : DirectoryView) (messages : MessagesView) (s lo hi : ℕ) (spoilt :
     marks = l.marks;
     cells = l.cells;
     used = l.used;
-    messages = like-mail-fewer m.messages d forgetting s lo hi l.messages spoilt;
+    messages = like-mail-fewer m.messages m.copies d forgetting s lo hi l.messages spoilt refl (λ number. lost (mail_at d number) (sound.mailed.mails number));
   }
+    where
+      lost : (o : Option Mail) → IfSome o (IsMail d.spaces.memories.next d.next (copy_at d) (cells_of_copy d))
+          → IfSome o (λ mail. mail.store ≡ s → live_home (m.copies mail.target) ≡ None)
+      lost None is = tt
+      lost (Some mail) is = λ of. l.copies mail.target ∙ none_home (home_in (copy_at d mail.target)) mail s is.target of (none mail.target)
 
 -- a store without copies goes
 module _ (d : DirectoryView) (s : ℕ) (stores : List (ℕ × StoreView)) (owed : ℕ) (none : (q : ℕ) → store_in (copy_at d q) ≢ Some s)
@@ -119,7 +130,7 @@ module _ (d : DirectoryView) (s : ℕ) (stores : List (ℕ × StoreView)) (owed 
     marks = l.marks;
     cells = l.cells;
     used = l.used;
-    messages = record { mails = l.messages.mails; fresh = l.messages.fresh };
+    messages = record { mails = l.messages.mails; past = l.messages.past; fresh = l.messages.fresh; given = l.messages.given };
   }
 
 -- what is owned lies in the block
@@ -131,7 +142,7 @@ hi_among : (o : Option Held) (s lo hi : ℕ) → LiesAmong s lo hi (home_in o) �
 hi_among None s lo hi is = tt
 hi_among (Some held) s lo hi is = is.2
 
--- the journal alone changed, and messages over the store are spoilt
+-- the journal alone changed, and the messages, of which those over the store are spoilt
 module _ (d t : DirectoryView) (s : ℕ) (sound : IsSound d) (there : IsSome (store_at d s))
     (copies : t.copies ≡ d.copies) (stores : t.stores ≡ d.stores) (next : t.next ≡ d.next) (memories : t.spaces.memories ≡ d.spaces.memories)
     (spoilt : Spoils d.messages t.messages s 0 (len_in (store_at d s))) where
@@ -141,8 +152,12 @@ module _ (d t : DirectoryView) (s : ℕ) (sound : IsSound d) (there : IsSome (st
   copy_t : (q : ℕ) → copy_at t q ≡ copy_at d q
   copy_t q = ap (λ x. held_in x q) copies
 
-  like_t : (m : Machine) → IsLike m d → IsLike m t
-  like_t m l = like-same (record d { messages = t.messages }) t m memories copies stores next refl (like-forgetting d t.messages s 0 len spoilt m l)
+  -- the same with the messages that were in flight
+  abbrev unspoilt : DirectoryView
+  unspoilt = record t { messages = d.messages }
+
+  like_t : (m : Machine) → IsLike m d → IsLike m unspoilt
+  like_t m l = like-same d unspoilt m memories copies stores next refl l
 
   not_of : (q : ℕ) → (LiesAmong s 0 len (home_in (copy_at t q)) → ⊥) → store_in (copy_at d q) ≢ Some s
   not_of q not e = not (subst (λ (o : Option Held). LiesAmong s 0 len (home_in o)) (sym (copy_t q))
@@ -166,7 +181,7 @@ module _ (d t : DirectoryView) (s : ℕ) (sound : IsSound d) (there : IsSome (st
       past out below = ⊎_elim (λ (x : i < 0). omega (arith, x)) (λ (x : len ≤ i). omega (arith, x, below)) out
 
   but_staled : (m : Machine) → IsLike m d → IsLikeBut s 0 len (stales s 0 len m) t
-  but_staled m l = let k = like_t m l in let p = placed-like m t k in record {
+  but_staled m l = let k = like_t m l in let p = placed-like m unspoilt k in record {
     placed = record {
       memory = p.memory;
       stores = p.stores;
@@ -174,7 +189,7 @@ module _ (d t : DirectoryView) (s : ℕ) (sound : IsSound d) (there : IsSome (st
       copies = p.copies;
       new_copies = p.new_copies;
       used = p.used;
-      messages = like-mail-spoilt m.messages d t s 0 len l.messages spoilt;
+      messages = like-mail-spoilt m.messages m.copies d t s 0 len l.messages spoilt (ap (λ x. x.next) memories);
     };
     marks = λ q i some not.
         ap (λ (b : Bool). if b then stale else m.marks q i)
@@ -208,11 +223,11 @@ module _ (d t : DirectoryView) (s : ℕ) (sound : IsSound d) (there : IsSome (st
       (λ m l. inl ((refl, refl, refl), owned_in m l q i of own))
       (λ m l. refl)
 
-  -- no index was owned
-  pub leads-unowned : ((q i : ℕ) → store_in (copy_at d q) ≡ Some s → state_in (copy_at d q) i ≢ state.Owner) → IsSame d.spaces.journal t.spaces.journal
-      → Leads (IsClosing s len) (λ m. IsLike m d) (λ m. IsLikeBut s 0 len m t) d t
-  leads-unowned none same = leads-none (IsClosing s len) (λ m. IsLike m d) (λ m. IsLikeBut s 0 len m t) d t same
-      (λ m l. but-like s 0 len m t (λ q i is own. none q i (of_among q is) (ap (λ o. state_in o i) (sym (copy_t q)) ∙ own)) (like_t m l))
+-- no index of a store is owned, and nothing changed
+pub leads-unowned : (d : DirectoryView) (s len : ℕ) → ((q i : ℕ) → store_in (copy_at d q) ≡ Some s → state_in (copy_at d q) i ≢ state.Owner)
+    → Leads (IsClosing s len) (λ m. IsLike m d) (λ m. IsLikeBut s 0 len m d) d d
+leads-unowned d s len none = leads-none (IsClosing s len) (λ m. IsLike m d) (λ m. IsLikeBut s 0 len m d) d d (record { steps = refl; totals = refl })
+    (λ m l. but-like s 0 len m d (λ q i is. none q i (store_among s 0 len (home_in (copy_at d q)) is)) l)
 
 changes_unlisted : (o p : Option StoreView) → option_map unlisted o ≡ option_map unlisted p → changes_in o ≡ changes_in p
 changes_unlisted None None e = refl
@@ -220,13 +235,25 @@ changes_unlisted None (Some p) e = cc
 changes_unlisted (Some o) None e = cc
 changes_unlisted (Some o) (Some p) e = ap changes_in e
 
+store_there : (o : Option Held) (s : ℕ) → store_in o ≡ Some s → IsSome o
+store_there None s is = cc
+store_there (Some held) s is = refl
+
+-- a store has no copies where none lies among its indices
+pub none-left : (t u : DirectoryView) (s len : ℕ) → IsSound t → len_in (store_at t s) ≤ len → Thins t u s 0 len
+    → ((q : ℕ) → LiesAmong s 0 len (home_in (copy_at u q)) → ⊥) → (q : ℕ) → store_in (copy_at u q) ≢ Some s
+none-left t u s len sound below th none q is =
+    let c = th.there q (store_there (copy_at u q) s is) in
+    none q (subst (λ (o : Option Held). LiesAmong s 0 len (home_in o)) (sym c)
+    (among_all t s len (home_in (copy_at t q)) (sound.inside q) (ap store_in (sym c) ∙ is) below))
+
 module _ (a t u n : DirectoryView) (s : ℕ) (sound : IsSound t)
     (copies : t.copies ≡ a.copies) (stores : t.stores ≡ a.stores) (next : t.next ≡ a.next) (owed : t.owed ≡ a.owed) (named : t.named ≡ a.named)
     (memories : t.spaces.memories ≡ a.spaces.memories)
-    (messages : Spoils a.messages t.messages s 0 (len_in (store_at a s))) (aside : t.aside ≡ a.aside)
+    (messages : Spoils a.messages n.messages s 0 (len_in (store_at a s))) (aside : t.aside ≡ a.aside)
     (th : Thins t u s 0 (len_in (store_at a s))) (none : (q : ℕ) → LiesAmong s 0 (len_in (store_at a s)) (home_in (copy_at u q)) → ⊥)
     (gone : store_at n s ≡ None) (others : (v : ℕ) → v ≢ s → store_at n v ≡ store_at u v)
-    (same : n ≡ record u { stores = n.stores; owed = u.owed - changes_in (store_at u s) }) where
+    (same : n ≡ record u { stores = n.stores; owed = u.owed - changes_in (store_at u s); messages = n.messages }) where
   copy_a : (q : ℕ) → copy_at t q ≡ copy_at a q
   copy_a q = ap (λ x. held_in x q) copies
 
@@ -237,27 +264,19 @@ module _ (a t u n : DirectoryView) (s : ℕ) (sound : IsSound t)
   all_among q e = among_all t s (len_in (store_at a s)) (home_in (copy_at t q)) (sound.inside q) (ap store_in (copy_a q) ∙ e)
       (omega (arith, ap (λ x. len_in (store_of x s)) stores))
 
-  pub none_left : (q : ℕ) → store_in (copy_at u q) ≢ Some s
-  none_left q e = let some = home_there (copy_at u q) e in let c = th.there q some in
-      none q (subst (λ (o : Option Held). LiesAmong s 0 (len_in (store_at a s)) (home_in o)) (sym c) (all_among q (ap store_in (sym (copy_a q)) ∙ ap store_in (sym c) ∙ e)))
-    where
-      home_there : (o : Option Held) → store_in o ≡ Some s → IsSome o
-      home_there None e = cc
-      home_there (Some held) e = refl
-
   pub closed : Closes a n s
   closed = record {
     store = gone;
     stores = λ v ne. others v ne ∙ th.others v ne ∙ ap (λ x. store_of x v) stores;
     gone = λ q e. copy_u q ∙ gone_among t u s 0 (len_in (store_at a s)) th none q (all_among q e);
     copies = λ q ne. copy_u q ∙ th.stays q (λ is. ne (ap store_in (sym (copy_a q)) ∙ store_among s 0 (len_in (store_at a s)) (home_in (copy_at t q)) is)) ∙ copy_a q;
-    cells = λ q some. ap (λ (x : DirectoryView). Rattle.sk_coherence_laws.specs.Directory.cells_of_copy x q) same
+    cells = λ q some. ap (λ (x : DirectoryView). cells_of_copy x q) same
         ∙ th.cells q (subst (λ (o : Option Held). IsSome o) (copy_u q) some) ∙ ap (λ x. block_of x q) memories;
     owed = ap (λ (x : DirectoryView). x.owed) same
         ∙ omega (arith, th.owed, owed, changes_unlisted (store_at u s) (store_at t s) (th.stores s), ap (λ x. changes_in (store_of x s)) stores);
     next = ap (λ (x : DirectoryView). x.next) same ∙ th.next ∙ next;
     named = ap (λ (x : DirectoryView). x.named) same ∙ th.named ∙ named;
-    messages = spoilt-between a.messages a.messages t.messages n.messages s 0 (len_in (store_at a s)) refl messages (ap (λ (x : DirectoryView). x.messages) same ∙ th.messages);
+    messages = messages;
     aside = ap (λ (x : DirectoryView). x.aside) same ∙ th.aside ∙ aside;
     next_copy = ap (λ (x : DirectoryView). x.spaces.memories.next) same ∙ th.next_copy ∙ ap (λ x. x.next) memories;
     ranks = ap (λ (x : DirectoryView). x.spaces.memories.ranks) same ∙ th.ranks ∙ ap (λ x. x.ranks) memories;

@@ -17,16 +17,16 @@ use Rattle.sk_copy_states.specs.Copies.{FillsAt, home_in, home_store, store_in, 
 use Rattle.sk_copy_states.specs.Stores.{StoreView, store_of, copies_in, changes_in, HasTile}
 use Rattle.sk_messages.specs.Messages.{Mail, Takes, flying_to}
 use Rattle.sk_coherence_laws.specs.Directory.{DirectoryView, copy_at, store_at, cells_of_copy, mail_at, mail_cell, block_home, IsSound, IsMail, AreMailed, AreCoherent}
-use Rattle.sk_coherence_laws.specs.Traced.{IsLike, IsLineOf, TracesStep, HasMessages, IsMessageOf}
+use Rattle.sk_coherence_laws.specs.Traced.{IsLike, IsLineOf, TracesStep, HasMessages, IsMessageOf, IsPast}
 use Rattle.sk_coherence_laws.specs.Moves.{TakesIn}
 use Rattle.sk_coherence_laws.specs.Sends.{Delivers, KeepsSends, count_in}
 use Rattle.sk_coherence_laws.specs.Writes.{WritesIn}
 use Rattle.sk_coherence_laws.proofs.InsideLemmas.{lens_same}
-use Rattle.sk_coherence_laws.proofs.OpenLemmas.{some_of, eq_yes, eq_no, replaced_else}
+use Rattle.sk_coherence_laws.proofs.OpenLemmas.{some_of, eq_yes, eq_no, replaced_here, replaced_else}
 use Rattle.sk_coherence_laws.proofs.SoundWrite.{writes_option, whole-option, home-option}
 use Rattle.sk_coherence_laws.proofs.TracedWrite.{live_of, some_home, within_yes, within_no, and_yes, and_no}
 use Rattle.sk_coherence_laws.proofs.FillLemmas.{within_or}
-use Rattle.sk_coherence_laws.proofs.MailLemmas.{mail-on}
+use Rattle.sk_coherence_laws.proofs.MailLemmas.{mail-on, delivered_landed}
 use Rattle.sk_coherence_laws.proofs.SendLemmas.{flies_here, flies_else}
 use Rattle.sk_coherence_laws.proofs.FlyingLemmas.{is_mail, of_store, block_there, block_reaches}
 use Rattle.sk_coherence_laws.proofs.Reshapes.{Reshapes, sound-reshaped, like-reshaped}
@@ -97,7 +97,7 @@ arrives-so d n number mail target lo hi cells target_is lo_is hi_is cells_is fil
 
 module _ (d n : DirectoryView) (number : ℕ) (mail : Mail) (sound : IsSound d) (there : IsSome (copy_at d mail.target))
     (came : Arrives d n number mail) where
-  mail_here : IsMail d.spaces.memories.next (copy_at d) (cells_of_copy d) mail
+  mail_here : IsMail d.spaces.memories.next d.next (copy_at d) (cells_of_copy d) mail
   mail_here = is_mail d number mail sound came.takes.before there
 
   store_here : store_in (copy_at d mail.target) ≡ Some mail.store
@@ -248,17 +248,17 @@ module _ (d n : DirectoryView) (number : ℕ) (mail : Mail) (sound : IsSound d) 
     deliveries = λ q some. deliveries_left q (count_in q ids) (has.deliveries q (some_before q some));
   }
 
-  mails_left : (k : ℕ) → IfSome (mail_at n k) (IsMail n.spaces.memories.next (copy_at n) (cells_of_copy n))
+  mails_left : (k : ℕ) → IfSome (mail_at n k) (IsMail n.spaces.memories.next n.next (copy_at n) (cells_of_copy n))
   mails_left k = ⊎_elim
-      (λ (e : k ≡ number). subst (λ (o : Option Mail). IfSome o (IsMail n.spaces.memories.next (copy_at n) (cells_of_copy n)))
+      (λ (e : k ≡ number). subst (λ (o : Option Mail). IfSome o (IsMail n.spaces.memories.next n.next (copy_at n) (cells_of_copy n)))
       (sym (ap (mail_at n) e ∙ came.takes.here)) tt)
-      (λ (ne : k ≢ number). subst (λ (o : Option Mail). IfSome o (IsMail n.spaces.memories.next (copy_at n) (cells_of_copy n)))
+      (λ (ne : k ≢ number). subst (λ (o : Option Mail). IfSome o (IsMail n.spaces.memories.next n.next (copy_at n) (cells_of_copy n)))
       (sym (came.takes.others k ne)) (all (mail_at d k) (sound.mailed.mails k)))
       (cases_eq k number)
     where
-      all : (o : Option Mail) → IfSome o (IsMail d.spaces.memories.next (copy_at d) (cells_of_copy d)) → IfSome o (IsMail n.spaces.memories.next (copy_at n) (cells_of_copy n))
+      all : (o : Option Mail) → IfSome o (IsMail d.spaces.memories.next d.next (copy_at d) (cells_of_copy d)) → IfSome o (IsMail n.spaces.memories.next n.next (copy_at n) (cells_of_copy n))
       all None is = tt
-      all (Some other) is = mail-on d n other (omega (arith, reshapes.next_copy)) (λ some. homes other.target)
+      all (Some other) is = mail-on d n other (omega (arith, reshapes.next_copy)) (omega (arith, came.next)) (λ some. homes other.target)
           (λ q i store own above below. let o = owner_before q i own in record {
             at = q;
             store = ap home_store (sym (homes q));
@@ -311,7 +311,7 @@ module _ (d n : DirectoryView) (number : ℕ) (mail : Mail) (sound : IsSound d) 
       (λ out state cell. ap (λ (t : Bool). if t then message.cells i else m.cells q i) (inside_no q i out)
       ∙ l.cells q i (λ e. readable (state ∙ e)) ∙ sym cell)
 
-  messages_after : (m : Machine) (message : Message) → HasMessages m.messages d → m.messages number ≡ Some message → HasMessages (arrived m message).messages n
+  messages_after : (m : Machine) (message : Message) → HasMessages m.messages m.copies d → m.messages number ≡ Some message → HasMessages (arrived m message).messages m.copies n
   messages_after m message has is = record {
     mails = λ k. ⊎_elim
         (λ (e : k ≡ number). subst (λ (o : Option Mail). IfSome o (λ mail. IsSomeAnd ((arrived m message).messages k) (IsMessageOf mail))) (sym (ap (mail_at n) e ∙ came.takes.here)) tt)
@@ -319,10 +319,25 @@ module _ (d n : DirectoryView) (number : ℕ) (mail : Mail) (sound : IsSound d) 
         (subst (λ (o : Option Message). IfSome (mail_at d k) (λ mail. IsSomeAnd o (IsMessageOf mail)))
         (sym (replaced_else m.messages number (Some (record message { fate = delivered })) k ne)) (has.mails k)))
         (cases_eq k number);
+    past = λ k none. ⊎_elim
+        (λ (e : k ≡ number). subst (λ (o : Option Message). IfSome o (IsPast m.copies))
+        (sym (replaced_here m.messages number (Some (record message { fate = delivered })) k e)) (inl delivered_landed))
+        (λ (ne : k ≢ number). subst (λ (o : Option Message). IfSome o (IsPast m.copies))
+        (sym (replaced_else m.messages number (Some (record message { fate = delivered })) k ne)) (has.past k (sym (came.takes.others k ne) ∙ none)))
+        (cases_eq k number);
     fresh = λ k above. let none = has.fresh k (omega (arith, above, came.takes.next)) in
         replaced_else m.messages number (Some (record message { fate = delivered })) k (λ e. not_both (m.messages k) message none (ap m.messages e ∙ is)) ∙ none;
+    given = λ k. subst (λ (x : ℕ). IfSome ((arrived m message).messages k) (λ sent. sent.target < x)) (sym reshapes.next_copy) (⊎_elim
+        (λ (e : k ≡ number). subst (λ (o : Option Message). IfSome o (λ sent. sent.target < d.spaces.memories.next))
+        (sym (replaced_here m.messages number (Some (record message { fate = delivered })) k e)) given_before)
+        (λ (ne : k ≢ number). subst (λ (o : Option Message). IfSome o (λ sent. sent.target < d.spaces.memories.next))
+        (sym (replaced_else m.messages number (Some (record message { fate = delivered })) k ne)) (has.given k))
+        (cases_eq k number));
   }
     where
+      given_before : message.target < d.spaces.memories.next
+      given_before = subst (λ (o : Option Message). IfSome o (λ sent. sent.target < d.spaces.memories.next)) is (has.given number)
+
       not_both : (o : Option Message) (message : Message) → o ≡ None → o ≡ Some message → ⊥
       not_both o message none some = cc
 

@@ -118,7 +118,7 @@ module _ (d n : DirectoryView) (from to lo hi : ℕ) (sound : IsSound d) (can : 
   pub sound-fill : n.owed ≤ n.ready → n.ready + n.aside ≤ n.spaces.journal.spare → IsSound n
   sound-fill owed ready = sound-reshaped d n sound reshapes
       (fill.coherent (copy_at d) (copy_at n) (cells_of_copy d) (cells_of_copy n) from to lo hi target others values ch.memories.blocks.others can.store can.readable sound.coherent)
-      (mailed-so d n sound.mailed messages aside ch.memories.next reshapes.homes expected_kept owner_before)
+      (mailed-so d n sound.mailed messages aside ch.memories.next next reshapes.homes expected_kept owner_before)
       owed ready
 
   mark_filled : (m : Machine) → IsLike m d → (q i : ℕ) → q ≡ to → lo ≤ i → i < hi
@@ -180,7 +180,7 @@ module _ (d n : DirectoryView) (from to lo hi : ℕ) (sound : IsSound d) (can : 
       ∙ l.cells from i (can.readable i above below)
       ∙ sym (subst (λ (x : ℕ). cell_in (cells_of_copy n x) i ≡ cell_in (cells_of_copy d from) i) (sym e) (values.inside i above below)))
       (λ out. (unfilled m q i out).1 ∙ l.cells q i (λ e. readable (state_else q i out ∙ e)) ∙ sym (cell_else q i out)))
-      (like-mail-kept m.messages d n l.messages messages)
+      (like-mail-kept m.messages m.copies d n l.messages messages ch.memories.next)
 
   pub traced-fill : TracesStep d n (Copy from to lo hi)
   traced-fill m l = ((some_of m.memory _ l.memory, can-copy m d from to lo hi l can ordered), like-fill m l)

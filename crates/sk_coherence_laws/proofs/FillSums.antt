@@ -7,7 +7,7 @@ use Rattle.sk_spaces.specs.Machine.{Machine}
 use Rattle.sk_copy_states.specs.Copies.{home_store}
 use Rattle.sk_coherence_laws.specs.Directory.{DirectoryView, copy_at, IsSound}
 use Rattle.sk_coherence_laws.specs.Traced.{IsLike, TracesStep}
-use Rattle.sk_coherence_laws.specs.Moves.{CanMove, Fills, IsStaleAt, Idles}
+use Rattle.sk_coherence_laws.specs.Moves.{CanMove, Fills, IsStaleAt, IsSourceAt, Idles}
 use Rattle.sk_copy_states.specs.Sources.{MayRead}
 use Rattle.sk_coherence_laws.specs.Owned.{HasOwnerAt}
 use Rattle.sk_coherence_laws.specs.Serves.{Serves, GrowsAt}
@@ -54,10 +54,10 @@ module _ (a b n : DirectoryView) (from to lo hi : ℕ) (sa : IsSound a) (sb : Is
   pub sum-serves : Serves a n
   sum-serves = serves-trans a b n sa (serves-idle a b i) (serves-fill b n from to lo hi f missing)
 
-  pub sum-traced : Traces IsFill a n
-  sum-traced = traces-trans IsFill a b n (traces-idle IsFill a b i)
+  pub sum-traced : IsSourceAt b from to lo hi → Traces IsFill a n
+  sum-traced source = traces-trans IsFill a b n (traces-idle IsFill a b i)
       (traces-one IsFill b n (Copy from to lo hi) f.rest.noted t
-      (λ m l. is-fill m b from to lo hi l can.target missing)
+      (λ m l. is-fill m b from to lo hi l can.source can.target missing source)
       (λ m l. far_same m b from to sb l))
 
   pub sum-grows : (q : ℕ) → GrowsAt a n q

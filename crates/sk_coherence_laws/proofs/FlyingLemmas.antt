@@ -51,8 +51,8 @@ ready_filled d (Some held) fit some room = (fit, omega (arith, some, room))
 
 -- what there is for a message in flight whose copy is there still
 module _ (d : DirectoryView) (number : ℕ) (mail : Mail) (sound : IsSound d) (flying : mail_at d number ≡ Some mail) (there : IsSome (copy_at d mail.target)) where
-  pub is_mail : IsMail d.spaces.memories.next (copy_at d) (cells_of_copy d) mail
-  is_mail = subst (λ (o : Option Mail). IfSome o (IsMail d.spaces.memories.next (copy_at d) (cells_of_copy d))) flying (sound.mailed.mails number)
+  pub is_mail : IsMail d.spaces.memories.next d.next (copy_at d) (cells_of_copy d) mail
+  is_mail = subst (λ (o : Option Mail). IfSome o (IsMail d.spaces.memories.next d.next (copy_at d) (cells_of_copy d))) flying (sound.mailed.mails number)
 
   pub of_store : store_in (copy_at d mail.target) ≡ Some mail.store
   of_store = store_of_home (copy_at d mail.target) mail.store mail.lo mail.hi is_mail.target there

@@ -19,7 +19,7 @@ use Rattle.sk_coherence_laws.specs.Frees.{FreesCopy}
 use Rattle.sk_coherence_laws.specs.Retires.{IsPlaced}
 use Rattle.sk_coherence_laws.specs.Serves.{HasOwner}
 use Rattle.sk_coherence_laws.proofs.InsideLemmas.{lens_on}
-use Rattle.sk_coherence_laws.proofs.MailLemmas.{StaysOrNew, stays_so, mailed-kept, like-mail-kept}
+use Rattle.sk_coherence_laws.proofs.MailLemmas.{StaysOrNew, stays_so, mailed-kept, like-mail-kept, like-mail-beside}
 use Rattle.sk_coherence_laws.proofs.PlacedLemmas.{placed-like, like-placed}
 use Rattle.sk_coherence_laws.proofs.LegalMoves.{not_owner_mark}
 use Rattle.sk_coherence_laws.proofs.OpenLemmas.{some_of, eq_yes, eq_no, replaced_here, replaced_else}
@@ -243,7 +243,7 @@ module _ (d n : DirectoryView) (id s : ℕ) (st now : StoreView) (sound : IsSoun
     new_copies = λ q above. let below : d.spaces.memories.next ≤ q = omega (arith, above, f.memories.next) in f.copies.others q (id_below q below) ∙ sound.new_copies q below;
     new_stores = λ t above. let below : d.next ≤ t = omega (arith, above, f.next) in f.stores.others t (s_below t below) ∙ sound.new_stores t below;
     coherent = coherent_now;
-    mailed = mailed-kept d n sound.mailed f.messages f.aside (omega (arith, f.memories.next)) stays_now owner_before;
+    mailed = mailed-kept d n sound.mailed f.messages f.aside (omega (arith, f.memories.next)) (omega (arith, f.next)) stays_now owner_before;
   }
 
   stores_like : (m : Machine) → IsPlaced m d → (t : ℕ) → IfSome (store_at n t) (λ store. IsSomeAnd (m.stores t) (IsLineOf store))
@@ -270,6 +270,13 @@ module _ (d n : DirectoryView) (id s : ℕ) (st now : StoreView) (sound : IsSoun
       (λ (ne : q ≢ id). ap live_home (replaced_else m.copies id freed q ne) ∙ l.copies q ∙ ap home_in (sym (f.copies.others q ne)))
       (cases_eq q id)
 
+  -- a copy that was gone is gone still
+  gone_still : (m : Machine) (q : ℕ) → live_home (m.copies q) ≡ None → live_home (replaced m.copies id freed q) ≡ None
+  gone_still m q gone = ⊎_elim
+      (λ (e : q ≡ id). ap live_home (replaced_here m.copies id freed q e))
+      (λ (ne : q ≢ id). ap live_home (replaced_else m.copies id freed q ne) ∙ gone)
+      (cases_eq q id)
+
   -- the copies and stores that are left lie as before
   pub placed-free : (m : Machine) → IsPlaced m d → (home : Home) → home_in (copy_at d id) ≡ Some home → IsPlaced (frees_at (live home) id m) n
   placed-free m l home is = record {
@@ -281,7 +288,8 @@ module _ (d n : DirectoryView) (id s : ℕ) (st now : StoreView) (sound : IsSoun
     new_copies = λ q above. let below : d.spaces.memories.next ≤ q = omega (arith, above, f.memories.next) in
         replaced_else m.copies id freed q (id_below q below) ∙ l.new_copies q below;
     used = used_now m l home is;
-    messages = like-mail-kept m.messages d n l.messages f.messages;
+    messages = like-mail-kept m.messages (replaced m.copies id freed) d n
+        (like-mail-beside m.messages m.copies (replaced m.copies id freed) d l.messages (λ q below gone. gone_still m q gone)) f.messages f.memories.next;
   }
 
   pub copy_left : (q : ℕ) → IsSome (copy_at n q) → copy_at n q ≡ copy_at d q

@@ -61,7 +61,7 @@ module _ (d n : DirectoryView) (kept : (q : ℕ) → KeepsStates (copy_at d q) (
         new_copies = λ q above. none_of_home (copy_at n q) ((kept q).home ∙ ap home_in (s.new_copies q (subst (λ x. x.next ≤ q) spaces above)));
         new_stores = λ t above. store t ∙ s.new_stores t (omega (arith, above, next));
         coherent = coherent-kept s.coherent cells;
-        mailed = mailed-so d n s.mailed messages aside (ap (λ x. x.next) spaces) (λ q. (kept q).home) (λ q. (kept q).expected)
+        mailed = mailed-so d n s.mailed messages aside (ap (λ x. x.next) spaces) next (λ q. (kept q).home) (λ q. (kept q).expected)
             (λ q i own. record { at = q; store = sym (ap home_store (kept q).home); owns = sym ((kept q).states i) ∙ own; cell = sym (ap (λ o. cell_in o i) (cells q)) });
       }
 
@@ -78,7 +78,7 @@ module _ (d n : DirectoryView) (kept : (q : ℕ) → KeepsStates (copy_at d q) (
         marks = λ q i some. l.marks q i (some_home (copy_at n q) (copy_at d q) (kept q).home some) ∙ ap mark_of (sym ((kept q).states i));
         cells = λ q i readable. l.cells q i (λ e. readable ((kept q).states i ∙ e)) ∙ ap (λ o. cell_in o i) (sym (cells q));
         used = λ space some. l.used space some ∙ ap (λ x. Rattle.sk_spaces.specs.Memories.used_of x space) (sym spaces);
-        messages = like-mail-kept m.messages d n l.messages messages;
+        messages = like-mail-kept m.messages m.copies d n l.messages messages (ap (λ x. x.next) spaces);
       }
 
 pub keeps_same : (o : Option Held) → KeepsStates o o

@@ -14,7 +14,7 @@ use Rattle.sk_copy_states.specs.Stores.{StoreView, copies_in, changes_in, len_in
 use Rattle.sk_coherence_laws.specs.Directory.{DirectoryView, copy_at, store_at, cells_of_copy, block_home, IsSound}
 use Rattle.sk_coherence_laws.specs.Traced.{IsLike, IsLineOf, Opens}
 use Rattle.sk_coherence_laws.proofs.InsideLemmas.{inside_on}
-use Rattle.sk_coherence_laws.proofs.MailLemmas.{mailed-so, like-mail-kept}
+use Rattle.sk_coherence_laws.proofs.MailLemmas.{mailed-kept, stays_so, like-mail-kept}
 
 pub some_of : (o : Option MemoryLine) (P : MemoryLine → Type 0) → IsSomeAnd o P → IsSome o
 some_of None P holds = absurd holds
@@ -107,7 +107,8 @@ module _ (d n : DirectoryView) (id : ℕ) (ty : Ty) (shape : List ℕ) (tile : O
           (ap (λ x. state_in x i) (sym (copy_same j)) ∙ a) (λ e. r (ap (λ x. state_in x i) (copy_same k) ∙ e))
           ∙ ap (λ x. cell_in x i) (sym (cells_same j));
     };
-    mailed = mailed-so d n s.mailed o.messages o.aside (ap (λ x. x.next) o.spaces.memories) (λ q. ap home_in (copy_same q)) (λ q. ap expected_in (copy_same q))
+    mailed = mailed-kept d n s.mailed o.messages o.aside (omega (arith, ap (λ x. x.next) o.spaces.memories)) (omega (arith, o.next))
+        (λ q there. stays_so d n q (ap home_in (copy_same q)) (ap expected_in (copy_same q)) there)
         (λ q i own. record { at = q; store = ap store_in (sym (copy_same q)); owns = ap (λ x. state_in x i) (sym (copy_same q)) ∙ own; cell = ap (λ x. cell_in x i) (sym (cells_same q)) });
   }
 
@@ -132,6 +133,6 @@ module _ (d n : DirectoryView) (id : ℕ) (ty : Ty) (shape : List ℕ) (tile : O
       marks = λ q i some. l.marks q i (subst (λ (x : Option Held). IsSome x) (copy_same q) some) ∙ ap (λ x. mark_of (state_in x i)) (sym (copy_same q));
       cells = λ q i readable. l.cells q i (λ e. readable (ap (λ x. state_in x i) (copy_same q) ∙ e)) ∙ ap (λ x. cell_in x i) (sym (cells_same q));
       used = λ space some. l.used space some ∙ ap (λ x. used_of x space) (sym o.spaces.memories);
-      messages = like-mail-kept m.messages d n l.messages o.messages;
+      messages = like-mail-kept m.messages m.copies d n l.messages o.messages (ap (λ x. x.next) o.spaces.memories);
     },
   )

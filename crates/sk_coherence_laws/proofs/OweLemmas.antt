@@ -90,7 +90,7 @@ module _ (d n : DirectoryView) (s copy room : ℕ) (sound : IsSound d) (o : Owes
   pub sound-owed : d.owed + 2 ≤ d.ready → IsSound n
   sound-owed more = sound-reshaped d n sound reshapes-owed
       (coherent-kept d n o.copies sound.coherent (λ q. ap (λ x. Rattle.sk_spaces.specs.Spaces.block_at x q) o.spaces))
-      (mailed-so d n sound.mailed o.messages o.aside (ap (λ x. x.memories.next) o.spaces) (λ q. (o.copies q).home) (λ q. (o.copies q).expected)
+      (mailed-so d n sound.mailed o.messages o.aside (ap (λ x. x.memories.next) o.spaces) o.next (λ q. (o.copies q).home) (λ q. (o.copies q).expected)
       (λ q i own. record {
         at = q;
         store = sym (ap home_store (o.copies q).home);
@@ -104,7 +104,7 @@ module _ (d n : DirectoryView) (s copy room : ℕ) (sound : IsSound d) (o : Owes
   like-owed m l = like-reshaped d n m m l reshapes-owed refl refl refl refl
       (λ q i some. l.marks q i (some_home (copy_at n q) (copy_at d q) (o.copies q).home some) ∙ ap mark_of (sym ((o.copies q).states i)))
       (λ q i readable. l.cells q i (λ e. readable ((o.copies q).states i ∙ e)) ∙ ap (λ x. cell_in (Rattle.sk_spaces.specs.Spaces.block_at x q) i) (sym o.spaces))
-      (like-mail-kept m.messages d n l.messages o.messages)
+      (like-mail-kept m.messages m.copies d n l.messages o.messages (ap (λ x. x.memories.next) o.spaces))
 
 pub pinned-more : (o p : Option Held) → IsSome o → IfSome o (λ held. p ≡ Some (record held { pins = held.pins + 1 })) → pins_in p ≡ pins_in o + 1
 pinned-more None p there is = cc

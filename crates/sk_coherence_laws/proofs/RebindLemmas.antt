@@ -83,7 +83,7 @@ module _ (d n : DirectoryView) (s : ℕ) (sound : IsSound d) (r : Rebinds d n s)
 
   pub sound-rebound : 0 < changes_in (store_at d s) → IsSound n
   sound-rebound some = sound-reshaped d n sound (reshapes-rebound some) (staling.coherent_staled d n s 0 len r.states r.spaces.memories sound.coherent)
-      (staling.mailed_staled d n s 0 len r.states r.spaces.memories sound.mailed r.messages r.aside)
+      (staling.mailed_staled d n s 0 len r.states r.spaces.memories sound.mailed r.messages r.aside r.next)
       (omega (arith, r.owed, r.ready, sound.owed)) (omega (arith, r.ready, r.aside, sound.ready, r.spaces.noted.spare))
 
   pub traced-rebound : 0 < changes_in (store_at d s) → IsSome (store_at d s) → TracesStep d n (line.Stale s 0 len)
@@ -91,5 +91,5 @@ module _ (d n : DirectoryView) (s : ℕ) (sound : IsSound d) (r : Rebinds d n s)
     (some_of m.memory _ l.memory, staling.inside-line (store_at d s) (m.stores s) 0 len there (omega arith) (omega arith) (l.stores s)),
     like-reshaped d n m (stales s 0 len m) l (reshapes-rebound some) refl refl refl refl (staling.mark_staled d n s 0 len r.states r.spaces.memories m l)
         (λ q i readable. l.cells q i (staling.readable_before d n s 0 len r.states r.spaces.memories q i readable) ∙ ap (λ o. cell_in o i) (sym (cells_same q)))
-        (like-mail-spoilt m.messages d n s 0 len l.messages r.messages),
+        (like-mail-spoilt m.messages m.copies d n s 0 len l.messages r.messages (ap (λ x. x.next) r.spaces.memories)),
   )

@@ -57,7 +57,7 @@ pub like-reshaped : (d n : DirectoryView) (m after : Machine) → IsLike m d →
     → after.memory ≡ m.memory → after.stores ≡ m.stores → after.copies ≡ m.copies → after.used ≡ m.used
     → ((q i : ℕ) → IsSome (copy_at n q) → after.marks q i ≡ mark_of (state_in (copy_at n q) i))
     → ((q i : ℕ) → state_in (copy_at n q) i ≢ Stale → after.cells q i ≡ cell_in (cells_of_copy n q) i)
-    → HasMessages after.messages n → IsLike after n
+    → HasMessages after.messages after.copies n → IsLike after n
 like-reshaped d n m after l r memory stores copies used marks cells messages = record {
   memory = subst (λ (o : Option MemoryLine). IsSomeAnd o (λ line. (line.ranks ≡ n.spaces.memories.ranks) × (line.capacity ≡ n.spaces.memories.capacity))) (sym memory)
       (subst (λ (x : ℕ). IsSomeAnd m.memory (λ line. (line.ranks ≡ x) × (line.capacity ≡ n.spaces.memories.capacity))) (sym r.ranks)

@@ -4,7 +4,7 @@ use Rattle.std.proofs.lemmas.Bool.{cases_eq}
 use Rattle.std.proofs.lemmas.List.{length-append, map-append, take_more}
 use Rattle.std.proofs.lemmas.List.Sums.{sum_by_push, sum_by-append}
 use Rattle.std.proofs.Math.ListN.{get_or}
-use Rattle.sk_spaces.specs.Machine.{Machine, Message}
+use Rattle.sk_spaces.specs.Machine.{Machine}
 use Rattle.sk_spaces.specs.Blocks.{BlockView, IsWhole}
 use Rattle.sk_spaces.specs.Memories.{MemoriesView, block_of, used_of}
 use Rattle.sk_spaces.specs.Spaces.{SpacesView, Stays}
@@ -14,12 +14,12 @@ use Rattle.sk_copy_states.specs.Copies.{ExpectsMore, HasRoomIn, home_in, home_st
 use Rattle.sk_copy_states.specs.Stores.{StoreView, store_of, copies_in, changes_in, HasTile}
 use Rattle.sk_messages.specs.Messages.{MessagesView, Mail, IsSame}
 use Rattle.sk_coherence_laws.specs.Directory.{DirectoryView, copy_at, store_at, cells_of_copy, mail_at, block_home, IsSound, IsMail, AreMailed, AreCoherent}
-use Rattle.sk_coherence_laws.specs.Traced.{IsLike, IsLineOf, HasMessages, IsMessageOf}
+use Rattle.sk_coherence_laws.specs.Traced.{IsLike, IsLineOf}
 use Rattle.sk_coherence_laws.specs.Sends.{MakesRoom, KeepsSends, AddsSends, count_in}
 use Rattle.sk_coherence_laws.proofs.InsideLemmas.{lens_same}
 use Rattle.sk_coherence_laws.proofs.OpenLemmas.{eq_yes, eq_no}
 use Rattle.sk_coherence_laws.proofs.TracedWrite.{some_home}
-use Rattle.sk_coherence_laws.proofs.MailLemmas.{mail-on}
+use Rattle.sk_coherence_laws.proofs.MailLemmas.{mail-on, like-mail-same}
 use Rattle.sk_coherence_laws.proofs.Reshapes.{Reshapes, sound-reshaped}
 
 -- no message more, and those of two changes
@@ -190,13 +190,13 @@ module _ (d n : DirectoryView) (made : MakesRoom d n) where
         ∙ ap (λ o. cell_in o i) (sym (cells_same j));
   }
 
-  mails_roomed : IsSound d → (k : ℕ) → IfSome (mail_at n k) (IsMail n.spaces.memories.next (copy_at n) (cells_of_copy n))
-  mails_roomed sound k = subst (λ (o : Option Mail). IfSome o (IsMail n.spaces.memories.next (copy_at n) (cells_of_copy n))) (sym (made.messages.mails k))
+  mails_roomed : IsSound d → (k : ℕ) → IfSome (mail_at n k) (IsMail n.spaces.memories.next n.next (copy_at n) (cells_of_copy n))
+  mails_roomed sound k = subst (λ (o : Option Mail). IfSome o (IsMail n.spaces.memories.next n.next (copy_at n) (cells_of_copy n))) (sym (made.messages.mails k))
       (all (mail_at d k) (sound.mailed.mails k))
     where
-      all : (o : Option Mail) → IfSome o (IsMail d.spaces.memories.next (copy_at d) (cells_of_copy d)) → IfSome o (IsMail n.spaces.memories.next (copy_at n) (cells_of_copy n))
+      all : (o : Option Mail) → IfSome o (IsMail d.spaces.memories.next d.next (copy_at d) (cells_of_copy d)) → IfSome o (IsMail n.spaces.memories.next n.next (copy_at n) (cells_of_copy n))
       all None is = tt
-      all (Some mail) is = mail-on d n mail (omega (arith, ap (λ (x : MemoriesView). x.next) made.spaces.memories)) (λ there. homes mail.target)
+      all (Some mail) is = mail-on d n mail (omega (arith, ap (λ (x : MemoriesView). x.next) made.spaces.memories)) (omega (arith, made.next)) (λ there. homes mail.target)
           (λ q i store own above below. record {
             at = q;
             store = ap home_store (sym (homes q));
@@ -238,12 +238,6 @@ module _ (d n : DirectoryView) (made : MakesRoom d n) where
   sound-roomed sound room aside ready = sound-reshaped d n sound (reshapes sound room) (coherent sound.coherent) (mailed sound aside)
       (omega (arith, sound.owed, made.owed, made.ready)) ready
 
-  has_messages : (messages : ℕ → Option Message) → HasMessages messages d → HasMessages messages n
-  has_messages messages has = record {
-    mails = λ k. subst (λ (o : Option Mail). IfSome o (λ mail. IsSomeAnd (messages k) (IsMessageOf mail))) (sym (made.messages.mails k)) (has.mails k);
-    fresh = λ k above. has.fresh k (omega (arith, above, made.messages.next));
-  }
-
   pub like-roomed : (m : Machine) → IsLike m d → IsLike m n
   like-roomed m l = record {
     memory = subst (λ (x : MemoriesView). IsSomeAnd m.memory (λ line. (line.ranks ≡ x.ranks) × (line.capacity ≡ x.capacity))) (sym made.spaces.memories) l.memory;
@@ -254,7 +248,7 @@ module _ (d n : DirectoryView) (made : MakesRoom d n) where
     marks = λ q i some. l.marks q i (some_before q some) ∙ ap mark_of (sym (states q i));
     cells = λ q i readable. l.cells q i (λ e. readable (states q i ∙ e)) ∙ ap (λ o. cell_in o i) (sym (cells_same q));
     used = λ space some. l.used space some ∙ ap (λ x. used_of x space) (sym made.spaces.memories);
-    messages = has_messages m.messages l.messages;
+    messages = like-mail-same m.messages m.copies d n l.messages made.messages.mails made.messages.next (omega (arith, ap (λ (x : MemoriesView). x.next) made.spaces.memories));
   }
 
   -- no room was lost

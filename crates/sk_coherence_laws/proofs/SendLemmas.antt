@@ -14,7 +14,7 @@ use Rattle.sk_copy_states.specs.Copies.{ReachesIn, held_in, home_in, home_store,
 use Rattle.sk_copy_states.specs.Stores.{StoreView, store_of, copies_in, changes_in, HasTile}
 use Rattle.sk_messages.specs.Messages.{Mail, Puts, flies_to, flying_to}
 use Rattle.sk_coherence_laws.specs.Directory.{DirectoryView, copy_at, store_at, cells_of_copy, mail_at, block_home, IsSound, IsMail, AreMailed, AreCoherent}
-use Rattle.sk_coherence_laws.specs.Traced.{IsLike, IsLineOf, TracesStep, HasMessages, IsMessageOf}
+use Rattle.sk_coherence_laws.specs.Traced.{IsLike, IsLineOf, TracesStep, HasMessages, IsMessageOf, IsPast}
 use Rattle.sk_coherence_laws.specs.Moves.{CanMove}
 use Rattle.sk_coherence_laws.specs.Sends.{Sends, IsMailFrom, HasSends, UsesSend, LieApart, count_in}
 use Rattle.sk_coherence_laws.proofs.InsideLemmas.{lens_same}
@@ -24,6 +24,7 @@ use Rattle.sk_coherence_laws.proofs.LegalMoves.{can-copy}
 use Rattle.sk_coherence_laws.proofs.MovedCells.{length_cells, cell_part}
 use Rattle.sk_coherence_laws.proofs.FillSteps.{source_block, source_there}
 use Rattle.sk_coherence_laws.proofs.ServesLemmas.{not_there}
+use Rattle.sk_coherence_laws.proofs.FreeLemmas.{store_listed}
 use Rattle.sk_coherence_laws.proofs.MailLemmas.{mail-on}
 use Rattle.sk_coherence_laws.proofs.Reshapes.{Reshapes, sound-reshaped, like-reshaped}
 
@@ -58,6 +59,17 @@ number_below d q s there = ⊎_elim
     (λ (below : q < d.spaces.memories.next). below)
     (λ (above : d.spaces.memories.next ≤ q). absurd (not_there (copy_at d q) (s.new_copies q above) there))
     (cases_lt q d.spaces.memories.next)
+
+absent_store : (o : Option StoreView) → o ≡ None → IsSome o → ⊥
+absent_store None is there = cc
+absent_store (Some store) is there = cc
+
+-- the store of a copy has a number that was given
+store_below : (d : DirectoryView) (q s : ℕ) → IsSound d → store_in (copy_at d q) ≡ Some s → s < d.next
+store_below d q s sound is = ⊎_elim
+    (λ (below : s < d.next). below)
+    (λ (above : d.next ≤ s). absurd (absent_store (store_at d s) (sound.new_stores s above) (store_listed d q s sound is)))
+    (cases_lt s d.next)
 
 -- where a message lies in the copy that it goes to
 home_reaches : (o : Option Held) (s lo hi : ℕ) → store_in o ≡ Some s → ReachesIn o lo hi
@@ -127,10 +139,11 @@ module _ (d n : DirectoryView) (number from to lo hi : ℕ) (sound : IsSound d) 
   reshapes = reshapes-same d n sound sent.copies sent.stores sent.next sent.spaces.memories
 
   -- the message that is sent is one
-  is_mail : IsMail d.spaces.memories.next (copy_at d) (cells_of_copy d) sent.mail
+  is_mail : IsMail d.spaces.memories.next d.next (copy_at d) (cells_of_copy d) sent.mail
   is_mail = record {
     whole = omega (arith, sent.is_from.whole, sent.is_from.lo_is, sent.is_from.hi_is);
     given = omega (arith, number_below d to sound can.target, sent.is_from.target);
+    given_store = store_below d from sent.mail.store sound sent.is_from.store;
     target = subst (λ (x : ℕ). IfSome (home_in (copy_at d x)) (λ home. (home.store ≡ sent.mail.store) × (home.lo ≤ sent.mail.lo) × (sent.mail.hi ≤ home.hi))) (sym sent.is_from.target)
         (subst (λ (x : ℕ). IfSome (home_in (copy_at d to)) (λ home. (home.store ≡ sent.mail.store) × (home.lo ≤ x) × (sent.mail.hi ≤ home.hi))) (sym sent.is_from.lo_is)
         (subst (λ (x : ℕ). IfSome (home_in (copy_at d to)) (λ home. (home.store ≡ sent.mail.store) × (home.lo ≤ lo) × (x ≤ home.hi))) (sym sent.is_from.hi_is)
@@ -141,8 +154,8 @@ module _ (d n : DirectoryView) (number from to lo hi : ℕ) (sound : IsSound d) 
         sym (sound.coherent.equal q from i (store ∙ sym sent.is_from.store) own (can.readable i a b)) ∙ sym (sent.is_from.cells i a b);
   }
 
-  mail_kept : (mail : Mail) → IsMail d.spaces.memories.next (copy_at d) (cells_of_copy d) mail → IsMail n.spaces.memories.next (copy_at n) (cells_of_copy n) mail
-  mail_kept mail is = mail-on d n mail (omega (arith, reshapes.next_copy)) (λ there. reshapes.homes mail.target)
+  mail_kept : (mail : Mail) → IsMail d.spaces.memories.next d.next (copy_at d) (cells_of_copy d) mail → IsMail n.spaces.memories.next n.next (copy_at n) (cells_of_copy n) mail
+  mail_kept mail is = mail-on d n mail (omega (arith, reshapes.next_copy)) (omega (arith, sent.next)) (λ there. reshapes.homes mail.target)
       (λ q i store own above below. record {
         at = q;
         store = ap store_in (sym (copy_same q));
@@ -151,15 +164,15 @@ module _ (d n : DirectoryView) (number from to lo hi : ℕ) (sound : IsSound d) 
       })
       is
 
-  mails_kept : (k : ℕ) → IfSome (mail_at n k) (IsMail n.spaces.memories.next (copy_at n) (cells_of_copy n))
+  mails_kept : (k : ℕ) → IfSome (mail_at n k) (IsMail n.spaces.memories.next n.next (copy_at n) (cells_of_copy n))
   mails_kept k = ⊎_elim
-      (λ (e : k ≡ number). subst (λ (o : Option Mail). IfSome o (IsMail n.spaces.memories.next (copy_at n) (cells_of_copy n)))
+      (λ (e : k ≡ number). subst (λ (o : Option Mail). IfSome o (IsMail n.spaces.memories.next n.next (copy_at n) (cells_of_copy n)))
       (sym (ap (mail_at n) e ∙ sent.puts.here)) (mail_kept sent.mail is_mail))
-      (λ (ne : k ≢ number). subst (λ (o : Option Mail). IfSome o (IsMail n.spaces.memories.next (copy_at n) (cells_of_copy n)))
+      (λ (ne : k ≢ number). subst (λ (o : Option Mail). IfSome o (IsMail n.spaces.memories.next n.next (copy_at n) (cells_of_copy n)))
       (sym (sent.puts.others k ne)) (all (mail_at d k) (sound.mailed.mails k)))
       (cases_eq k number)
     where
-      all : (o : Option Mail) → IfSome o (IsMail d.spaces.memories.next (copy_at d) (cells_of_copy d)) → IfSome o (IsMail n.spaces.memories.next (copy_at n) (cells_of_copy n))
+      all : (o : Option Mail) → IfSome o (IsMail d.spaces.memories.next d.next (copy_at d) (cells_of_copy d)) → IfSome o (IsMail n.spaces.memories.next n.next (copy_at n) (cells_of_copy n))
       all None is = tt
       all (Some mail) is = mail_kept mail is
 
@@ -204,7 +217,7 @@ module _ (d n : DirectoryView) (number from to lo hi : ℕ) (sound : IsSound d) 
   message_of m home = record { store = home.store; target = to; lo = lo; hi = hi; cells = m.cells from; fate = flying }
 
   has_messages : (m : Machine) (home : Home) → IsLike m d → home_in (copy_at d from) ≡ Some home
-      → HasMessages (replaced m.messages number (Some (message_of m home))) n
+      → HasMessages (replaced m.messages number (Some (message_of m home))) m.copies n
   has_messages m home l is = record {
     mails = λ k. ⊎_elim
         (λ (e : k ≡ number). subst (λ (o : Option Mail). IfSome o (λ mail. IsSomeAnd (replaced m.messages number (Some (message_of m home)) k) (IsMessageOf mail)))
@@ -214,10 +227,25 @@ module _ (d n : DirectoryView) (number from to lo hi : ℕ) (sound : IsSound d) 
         (sym (sent.puts.others k ne))
         (subst (λ (o : Option Message). IfSome (mail_at d k) (λ mail. IsSomeAnd o (IsMessageOf mail))) (sym (replaced_else m.messages number (Some (message_of m home)) k ne)) (l.messages.mails k)))
         (cases_eq k number);
+    past = λ k none. ⊎_elim
+        (λ (e : k ≡ number). absurd (not_both (mail_at n k) (ap (mail_at n) e ∙ sent.puts.here) none))
+        (λ (ne : k ≢ number). subst (λ (o : Option Message). IfSome o (IsPast m.copies)) (sym (replaced_else m.messages number (Some (message_of m home)) k ne))
+        (l.messages.past k (sym (sent.puts.others k ne) ∙ none)))
+        (cases_eq k number);
     fresh = λ k above. replaced_else m.messages number (Some (message_of m home)) k (λ e. omega (arith, e, above, sent.puts.next, sent.puts.number_is))
         ∙ l.messages.fresh k (omega (arith, above, sent.puts.next));
+    given = λ k. ⊎_elim
+        (λ (e : k ≡ number). subst (λ (o : Option Message). IfSome o (λ message. message.target < n.spaces.memories.next))
+        (sym (replaced_here m.messages number (Some (message_of m home)) k e)) (omega (arith, number_below d to sound can.target, reshapes.next_copy)))
+        (λ (ne : k ≢ number). subst (λ (o : Option Message). IfSome o (λ message. message.target < n.spaces.memories.next))
+        (sym (replaced_else m.messages number (Some (message_of m home)) k ne))
+        (subst (λ (x : ℕ). IfSome (m.messages k) (λ message. message.target < x)) (sym reshapes.next_copy) (l.messages.given k)))
+        (cases_eq k number);
   }
     where
+      not_both : (o : Option Mail) → o ≡ Some sent.mail → o ≡ None → ⊥
+      not_both o some none = cc
+
       some_eq : (x y : ℕ) → Some x ≡ Some y → x ≡ y
       some_eq x y same = cc
 

@@ -299,7 +299,7 @@ module _ (d n : DirectoryView) (c lo : ℕ) (xs : List ℤ) (s : ℕ) (step : St
         (λ (ne : t ≢ s). u.others t ne ∙ sound.new_stores t (omega (arith, above, next)))
         (cases_eq t s);
     coherent = write.coherent (copy_at d) (copy_at n) (cells_of_copy d) (cells_of_copy n) c lo (lo + length xs) xs w values ch.memories.blocks.others sound.coherent;
-    mailed = mailed-spoilt-so d n s lo (lo + length xs) sound.mailed spoilt aside ch.memories.next homes_kept expected_kept owner_before;
+    mailed = mailed-spoilt-so d n s lo (lo + length xs) sound.mailed spoilt aside ch.memories.next next homes_kept expected_kept owner_before;
   }
 
 -- what is true of a name that is there

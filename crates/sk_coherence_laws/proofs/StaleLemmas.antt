@@ -85,8 +85,8 @@ module _ (d n : DirectoryView) (s lo hi : ℕ) (states : StalesAll (copy_at d) (
   has_owner : (q i : ℕ) → state_in (copy_at n q) i ≡ Owner → HasOwner n d q i
   has_owner q i own = record { at = q; store = sym (ap home_store (homes q)); owns = owner_before q i own; cell = sym (ap (λ o. cell_in o i) (cells_same q)) }
 
-  pub mailed_staled : AreMailed d → Spoils d.messages n.messages s lo hi → n.aside ≡ d.aside → AreMailed n
-  mailed_staled mailed spoilt aside = mailed-spoilt-so d n s lo hi mailed spoilt aside (ap (λ x. x.next) memories) homes expected_staled (λ q i own. inr (has_owner q i own))
+  pub mailed_staled : AreMailed d → Spoils d.messages n.messages s lo hi → n.aside ≡ d.aside → n.next ≡ d.next → AreMailed n
+  mailed_staled mailed spoilt aside next = mailed-spoilt-so d n s lo hi mailed spoilt aside (ap (λ x. x.next) memories) next homes expected_staled (λ q i own. inr (has_owner q i own))
 
   pub mark_staled : (m : Machine) → IsLike m d → (q i : ℕ) → IsSome (copy_at n q) → (stales s lo hi m).marks q i ≡ mark_of (state_in (copy_at n q) i)
   mark_staled m l q i some = by_place ((stales s lo hi m).marks q i ≡ mark_of (state_in (copy_at n q) i)) q i
@@ -142,7 +142,7 @@ module _ (d n : DirectoryView) (s lo hi : ℕ) (sound : IsSound d) (r : Stales d
 
   pub sound-staled : n.owed ≤ n.ready → n.ready + n.aside ≤ n.spaces.journal.spare → IsSound n
   sound-staled owed spare = sound-reshaped d n sound reshapes-staled (coherent_staled d n s lo hi r.states r.spaces.memories sound.coherent)
-      (mailed_staled d n s lo hi r.states r.spaces.memories sound.mailed r.messages r.aside) owed spare
+      (mailed_staled d n s lo hi r.states r.spaces.memories sound.mailed r.messages r.aside r.next) owed spare
 
   pub traced-staled : IsSome (store_at d s) → lo ≤ hi → hi ≤ len_in (store_at d s) → TracesStep d n (line.Stale s lo hi)
   traced-staled there ordered below m l = (
@@ -150,5 +150,5 @@ module _ (d n : DirectoryView) (s lo hi : ℕ) (sound : IsSound d) (r : Stales d
     like-reshaped d n m (stales s lo hi m) l reshapes-staled refl refl refl refl (mark_staled d n s lo hi r.states r.spaces.memories m l)
         (λ q i readable. l.cells q i (readable_before d n s lo hi r.states r.spaces.memories q i readable)
         ∙ ap (λ o. cell_in o i) (sym (cells_same d n s lo hi r.states r.spaces.memories q)))
-        (like-mail-spoilt m.messages d n s lo hi l.messages r.messages),
+        (like-mail-spoilt m.messages m.copies d n s lo hi l.messages r.messages (ap (λ x. x.next) r.spaces.memories)),
   )

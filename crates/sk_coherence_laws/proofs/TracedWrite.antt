@@ -170,7 +170,7 @@ module _ (d n : DirectoryView) (c lo : ℕ) (xs : List ℤ) (s : ℕ) (step : St
     cells = λ q i readable. by_place ((writes_in s c lo (lo + length xs) (λ k. slice_index_or xs (k - lo) (pos 0)) m).cells q i ≡ cell_in (cells_of_copy n q) i) i
         (λ above below. cell_inside q i above below readable) (λ out. cell_outside q i out readable);
     used = λ space some. l.used space some ∙ sym (omega (arith, ch.memories.used space, taken-written (cells_of_copy d c) space lo xs));
-    messages = like-mail-spoilt m.messages d n s lo (lo + length xs) l.messages spoilt;
+    messages = like-mail-spoilt m.messages m.copies d n s lo (lo + length xs) l.messages spoilt ch.memories.next;
   }
 
   -- the machine's write leaves what is seen of the directory after the write

@@ -1,20 +1,22 @@
 -- Steps that follow one another.
-use Rattle.std.proofs.Common.{◌≡◌, ℕ, List, [], ◌∷◌, ◌++◌, Option, Some, None, IsSome, option_map, arith, refl, sym, subst, ◌∙◌, ap, append_assoc}
+use Rattle.std.proofs.Common.{◌≡◌, ℕ, ◌<◌, ◌≤◌, List, [], ◌∷◌, ◌++◌, Option, Some, None, IsSome, option_map, arith, ⊎_elim, refl, inl, inr, sym, subst, ◌∙◌, ap, append_assoc}
 use Rattle.std.proofs.lemmas.Grind.{common_steps}
 use Rattle.sk_spaces.specs.declared.step.Step.{Step}
 use Rattle.sk_spaces.specs.declared.step.Step.TheVariants.{Copy}
 use Rattle.sk_spaces.specs.declared.totals.Totals.{Totals}
 use Rattle.sk_spaces.specs.Journal.{with_step, with_last, IsSame}
-use Rattle.sk_spaces.specs.Machine.{Machine, CopyState, unused, live, freed}
+use Rattle.sk_spaces.specs.Machine.{Machine, Home, CopyState, unused, live, freed}
 use Rattle.sk_spaces.specs.Rules.{after, after_all}
 use Rattle.sk_spaces.specs.Blocks.{BlockView}
 use Rattle.sk_spaces.specs.Memories.{are_far, is_far}
 use Rattle.sk_spaces.specs.Spaces.{NotesStep}
+use Rattle.sk_copy_states.specs.declared.held.Held.{Held}
 use Rattle.sk_copy_states.specs.Held.{mark_of}
+use Rattle.sk_copy_states.specs.Copies.{home_in}
 use Rattle.sk_coherence_laws.specs.Directory.{DirectoryView, copy_at, cells_of_copy, block_home, IsSound}
 use Rattle.sk_coherence_laws.specs.Traced.{IsLike, TracesStep, live_home}
-use Rattle.sk_coherence_laws.specs.Moves.{IsStaleAt}
-use Rattle.sk_coherence_laws.specs.Steps.{Traces, AreDone, goes_far, lie_apart, counted, IsFill}
+use Rattle.sk_coherence_laws.specs.Moves.{IsStaleAt, OwnsAt, AreNear, IsStaleNear, IsSourceAt}
+use Rattle.sk_coherence_laws.specs.Steps.{Traces, AreDone, goes_far, lie_apart, counted, IsStaleBeside, IsSource, IsFill}
 
 pub done-append : (P : Machine → Step → Type 0) (m : Machine) (xs ys : List Step) → AreDone P m xs → AreDone P (after_all m xs) ys → AreDone P m (xs ++ ys)
 done-append P m [] ys x y = y
@@ -113,6 +115,34 @@ pub far_same : (m : Machine) (d : DirectoryView) (from to : ℕ) → IsSound d �
 far_same m d from to s l = apart_same (m.copies from) (m.copies to) (cells_of_copy d from) (cells_of_copy d to)
     (l.copies from ∙ sym (s.tied from)) (l.copies to ∙ sym (s.tied to))
 
--- stale indices are stale in the machine
-pub is-fill : (m : Machine) (d : DirectoryView) (from to lo hi : ℕ) → IsLike m d → IsSome (copy_at d to) → IsStaleAt d to lo hi → IsFill m (Copy from to lo hi)
-is-fill m d from to lo hi l there missing = λ i above below. l.marks to i there ∙ ap mark_of (missing i above below)
+some_near : (o p : Option Held) → AreNear (home_in o) (home_in p) → IsSome o
+some_near None p near = absurd near
+some_near (Some o) p near = refl
+
+-- a copy that is stale if it is near another one is so in the machine
+stale_beside : (m : Machine) (d : DirectoryView) (to lo hi q i : ℕ) → IsLike m d → IsStaleNear d to lo hi q → lo ≤ i → i < hi → IsStaleBeside m to i q
+stale_beside m d to lo hi q i l missing above below near =
+    let here : AreNear (home_in (copy_at d q)) (home_in (copy_at d to))
+    = subst (λ (h : Option Home). AreNear (home_in (copy_at d q)) h) (l.copies to) (subst (λ (h : Option Home). AreNear h (live_home (m.copies to))) (l.copies q) near) in
+    l.marks q i (some_near (copy_at d q) (copy_at d to) here) ∙ ap mark_of (missing here i above below)
+
+-- the copy from which an index is filled is that one in the machine
+source-in : (m : Machine) (d : DirectoryView) (from to lo hi i : ℕ) → IsLike m d → IsSome (copy_at d from) → IsSourceAt d from to lo hi → lo ≤ i → i < hi → IsSource m from to i
+source-in m d from to lo hi i l there source above below = ⊎_elim
+    (λ (n : AreNear (home_in (copy_at d from)) (home_in (copy_at d to)) × ((q : ℕ) → q < from → IsStaleNear d to lo hi q)). inl (
+      subst (λ (h : Option Home). AreNear (live_home (m.copies from)) h) (sym (l.copies to)) (subst (λ (h : Option Home). AreNear h (home_in (copy_at d to))) (sym (l.copies from)) n.0),
+      λ q less. stale_beside m d to lo hi q i l (n.1 q less) above below,
+    ))
+    (λ (o : OwnsAt d from lo hi × ((q : ℕ) → IsStaleNear d to lo hi q)). inr (
+      l.marks from i there ∙ ap mark_of (o.0 i above below),
+      λ q. stale_beside m d to lo hi q i l (o.1 q) above below,
+    ))
+    source
+
+-- stale indices are stale in the machine, and are filled from the copy from which they have to come
+pub is-fill : (m : Machine) (d : DirectoryView) (from to lo hi : ℕ) → IsLike m d → IsSome (copy_at d from) → IsSome (copy_at d to) → IsStaleAt d to lo hi
+    → IsSourceAt d from to lo hi → IsFill m (Copy from to lo hi)
+is-fill m d from to lo hi l some there missing source = λ i above below. (
+  l.marks to i there ∙ ap mark_of (missing i above below),
+  source-in m d from to lo hi i l some source above below,
+)

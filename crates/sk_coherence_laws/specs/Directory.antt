@@ -54,17 +54,18 @@ pub record AreCoherent (held : ℕ → Option Held) (cells : ℕ → Option Bloc
       → cell_in (cells k) i ≡ cell_in (cells j) i
 
 -- A message has a cell for each of its indices, goes to a copy of its store that has them, if that is there still, and each owner
--- of one of them has the message's cell. The number of its copy is below the next one.
-pub record IsMail (next : ℕ) (held : ℕ → Option Held) (cells : ℕ → Option BlockView) (mail : Mail) : Type 0 where
+-- of one of them has the message's cell. The number of its copy, and that of its store, is below the next one.
+pub record IsMail (next next_store : ℕ) (held : ℕ → Option Held) (cells : ℕ → Option BlockView) (mail : Mail) : Type 0 where
   pub whole : mail.lo + length mail.cells ≡ mail.hi
   pub given : mail.target < next
+  pub given_store : mail.store < next_store
   pub target : IfSome (home_in (held mail.target)) (λ home. (home.store ≡ mail.store) × (home.lo ≤ mail.lo) × (mail.hi ≤ home.hi))
   pub equal : (q i : ℕ) → store_in (held q) ≡ Some mail.store → state_in (held q) i ≡ Owner → mail.lo ≤ i → i < mail.hi
       → cell_in (cells q) i ≡ mail_cell mail i
 
 -- the messages of a directory, each of which has the room of its delivery: a step, and a change of its copy's states
 pub record AreMailed (d : DirectoryView) : Type 0 where
-  pub mails : (number : ℕ) → IfSome (mail_at d number) (IsMail d.spaces.memories.next (copy_at d) (cells_of_copy d))
+  pub mails : (number : ℕ) → IfSome (mail_at d number) (IsMail d.spaces.memories.next d.next (copy_at d) (cells_of_copy d))
   pub steps : flying_in d.messages ≤ d.aside
   pub deliveries : (q : ℕ) → IsSome (copy_at d q) → flying_to q d.messages ≤ expected_in (copy_at d q)
   pub unsent : (q : ℕ) → d.spaces.memories.next ≤ q → flying_to q d.messages ≡ 0

@@ -1,10 +1,11 @@
 -- Cells that go from one copy of a store to another one.
-use Rattle.std.specs.Prelude.{◌≡◌, ◌≢◌, ℕ, ℤ, ◌<◌, ◌≤◌, IsSome}
+use Rattle.std.specs.Prelude.{◌≡◌, ◌≢◌, ℕ, ℤ, ◌<◌, ◌≤◌, Option, Some, IsSome, ◌⊎◌}
 use Rattle.sk_ranges.specs.declared.state.State.TheVariants.{Stale, Valid, Owner}
 use Rattle.sk_spaces.specs.declared.step.Step.{Step}
 use Rattle.sk_spaces.specs.declared.step.Step.TheVariants.{Copy, Back}
+use Rattle.sk_spaces.specs.Machine.{Home}
 use Rattle.sk_spaces.specs.Spaces.{NotesStep, Stays, used_at}
-use Rattle.sk_copy_states.specs.Copies.{ReachesIn, SetsAt, HandsOver, KeepsStates, store_in, state_in, cell_in, pins_in}
+use Rattle.sk_copy_states.specs.Copies.{ReachesIn, SetsAt, HandsOver, KeepsStates, home_in, store_in, state_in, cell_in, pins_in}
 use Rattle.sk_coherence_laws.specs.Directory.{DirectoryView, copy_at, store_at, cells_of_copy}
 
 -- two copies of one store, both with the indices lo ≤ i < hi, which may be read in the first
@@ -24,6 +25,22 @@ IsStaleAt d copy lo hi = (i : ℕ) → lo ≤ i → i < hi → state_in (copy_at
 -- the copy owns each of these indices
 abbrev pub OwnsAt : DirectoryView → ℕ → ℕ → ℕ → Type 0
 OwnsAt d copy lo hi = (i : ℕ) → lo ≤ i → i < hi → state_in (copy_at d copy) i ≡ Owner
+
+-- two copies that lie so are there, are of one store, and lie in one space
+abbrev pub AreNear : Option Home → Option Home → Type 0
+AreNear (Some one) (Some other) = (one.store ≡ other.store) × (one.space ≡ other.space)
+AreNear _ _ = ⊥
+
+-- the copy with number q is stale at each of these indices, if it is near the copy `to`
+abbrev pub IsStaleNear : DirectoryView → ℕ → ℕ → ℕ → ℕ → Type 0
+IsStaleNear d to lo hi q = AreNear (home_in (copy_at d q)) (home_in (copy_at d to)) → IsStaleAt d q lo hi
+
+-- from which copy these indices of the copy `to` are filled: from the copy of least number near it that may be read there, or
+-- there is none, and from their owner
+abbrev pub IsSourceAt : DirectoryView → ℕ → ℕ → ℕ → ℕ → Type 0
+IsSourceAt d from to lo hi =
+    (AreNear (home_in (copy_at d from)) (home_in (copy_at d to)) × ((q : ℕ) → q < from → IsStaleNear d to lo hi q))
+    ⊎ (OwnsAt d from lo hi × ((q : ℕ) → IsStaleNear d to lo hi q))
 
 -- the cells of the indices lo ≤ i < hi are those of another list; every other index keeps its own
 pub record TakesIn (source old new : ℕ → ℤ) (lo hi : ℕ) : Type 0 where

@@ -110,7 +110,7 @@ pub record IsPlaced (m : Machine) (d : DirectoryView) : Type 0 where
   pub copies : (q : ℕ) → live_home (m.copies q) ≡ home_in (copy_at d q)
   pub new_copies : (q : ℕ) → d.spaces.memories.next ≤ q → m.copies q ≡ unused
   pub used : (space : ℕ) → 0 < space → m.used space ≡ used_at d.spaces space
-  pub messages : HasMessages m.messages d
+  pub messages : HasMessages m.messages m.copies d
 
 -- the machine is like the directory, but that the copies of store s with all of their block among these indices own nothing in it
 pub record IsLikeBut (s lo hi : ℕ) (m : Machine) (d : DirectoryView) : Type 0 where

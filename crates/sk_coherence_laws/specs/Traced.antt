@@ -1,5 +1,5 @@
 -- A directory and the machine of a trace.
-use Rattle.std.specs.Prelude.{◌≡◌, ◌≢◌, ℕ, ℤ, ◌+◌, ◌-◌, ◌≤◌, ◌<◌, List, slice_index_or, Option, Some, None, IfSome, IsSome, IsSomeAnd, pos}
+use Rattle.std.specs.Prelude.{◌≡◌, ◌≢◌, ℕ, ℤ, ◌+◌, ◌-◌, ◌≤◌, ◌<◌, List, slice_index_or, Option, Some, None, IfSome, IsSome, IsSomeAnd, pos, ◌⊎◌}
 use Rattle.sk_ranges.specs.declared.state.State.TheVariants.{Stale}
 use Rattle.sk_spaces.specs.Machine.{Machine, Home, CopyState, unused, live, freed, StoreLine, Message, flying, writes}
 use Rattle.sk_spaces.specs.Spaces.{used_at, OnlyNotes}
@@ -31,14 +31,21 @@ pub record IsMessageOf (mail : Mail) (message : Message) : Type 0 where
   pub fate : message.fate ≡ flying
   pub cells : (i : ℕ) → mail.lo ≤ i → i < mail.hi → message.cells i ≡ mail_cell mail i
 
--- the machine has the messages of the directory, and none with a number that is not given yet
-pub record HasMessages (messages : ℕ → Option Message) (d : DirectoryView) : Type 0 where
-  pub mails : (number : ℕ) → IfSome (mail_at d number) (λ mail. IsSomeAnd (messages number) (IsMessageOf mail))
-  pub fresh : (number : ℕ) → next_of d.messages ≤ number → messages number ≡ None
+-- the message will not come: it came or was spoilt, or its copy is gone
+abbrev pub IsPast : (ℕ → CopyState) → Message → Type 0
+IsPast copies message = (message.fate ≢ flying) ⊎ (live_home (copies message.target) ≡ None)
 
--- The machine has the directory's capacity, ranks, stores, copies, states, cells that may be read, and messages. It may have
--- closed stores besides, and messages that came, were spoilt or have lost their copy. The numbers of its stores, copies and
--- messages are below the next ones of the directory.
+-- A machine with these messages and copies has the messages of the directory in flight, and no other one will come. The numbers
+-- of its messages, and of the copies that they go to, are below the next ones of the directory.
+pub record HasMessages (messages : ℕ → Option Message) (copies : ℕ → CopyState) (d : DirectoryView) : Type 0 where
+  pub mails : (number : ℕ) → IfSome (mail_at d number) (λ mail. IsSomeAnd (messages number) (IsMessageOf mail))
+  pub past : (number : ℕ) → mail_at d number ≡ None → IfSome (messages number) (IsPast copies)
+  pub fresh : (number : ℕ) → next_of d.messages ≤ number → messages number ≡ None
+  pub given : (number : ℕ) → IfSome (messages number) (λ message. message.target < d.spaces.memories.next)
+
+-- The machine has the directory's capacity, ranks, stores, copies, states, cells that may be read, and messages. Besides it may
+-- have other stores, and messages that came, were spoilt or have lost their copy. The numbers of its stores, copies and
+-- messages, and of the copies that its messages go to, are below the next ones of the directory.
 pub record IsLike (m : Machine) (d : DirectoryView) : Type 0 where
   pub memory : IsSomeAnd m.memory (λ line. (line.ranks ≡ d.spaces.memories.ranks) × (line.capacity ≡ d.spaces.memories.capacity))
   pub stores : (s : ℕ) → IfSome (store_at d s) (λ store. IsSomeAnd (m.stores s) (IsLineOf store))
@@ -48,7 +55,7 @@ pub record IsLike (m : Machine) (d : DirectoryView) : Type 0 where
   pub marks : (q i : ℕ) → IsSome (copy_at d q) → m.marks q i ≡ mark_of (state_in (copy_at d q) i)
   pub cells : (q i : ℕ) → state_in (copy_at d q) i ≢ Stale → m.cells q i ≡ cell_in (cells_of_copy d q) i
   pub used : (space : ℕ) → 0 < space → m.used space ≡ used_at d.spaces space
-  pub messages : HasMessages m.messages d
+  pub messages : HasMessages m.messages m.copies d
 
 -- the machine's write of these cells leaves what is seen of the directory after it
 abbrev pub TracesWrite : DirectoryView → DirectoryView → ℕ → ℕ → ℕ → List ℤ → Type 0

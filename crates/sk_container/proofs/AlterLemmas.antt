@@ -179,6 +179,7 @@ module _ (a b c : DirectoryView) (s space copy from to : ℕ) (there : IsSome (s
       stores = λ t. ap (option_map unlisted) (store_on t) ∙ x.stores t;
       next = p.next ∙ o.next ∙ x.next;
       owed = owed_on ∙ x.owed;
+      named = p.named;
       messages = spoilt-between a.messages c.messages n.messages n.messages s lo hi (o.messages ∙ x.messages) spoilt_on refl;
       aside = p.aside ∙ o.aside ∙ x.aside;
       next_copy = omega (arith, x.next_copy, p.next_copy, memories_next);

@@ -10,12 +10,13 @@ use Rattle.sk_copy_states.specs.declared.held.Held.{Held}
 use Rattle.sk_copy_states.specs.Copies.{held_in, home_in, home_store, store_in, state_in, cell_in, pins_in, expected_in}
 use Rattle.sk_copy_states.specs.Stores.{StoreView, copies_in, changes_in, len_in, opened}
 use Rattle.sk_messages.specs.Messages.{MessagesView, Mail, mail_of, left_of, Spoils}
-use Rattle.sk_coherence_laws.specs.Directory.{DirectoryView, copy_at, store_at, cells_of_copy, IsSound}
+use Rattle.sk_coherence_laws.specs.Directory.{DirectoryView, copy_at, store_at, cells_of_copy, mail_at, IsSound, IsMail}
 use Rattle.sk_coherence_laws.specs.Retires.{Closes, IsClosing}
 use Rattle.sk_coherence_laws.specs.Serves.{Serves, GrowsAt, WasEvicted, unlisted}
 use Rattle.sk_coherence_laws.specs.Steps.{Traces}
 use Rattle.sk_coherence_laws.specs.Traced.{Opens, TracesStep}
 use Rattle.sk_coherence_laws.proofs.MailLemmas.{spoilt-between}
+use Rattle.sk_coherence_laws.proofs.OpenLemmas.{eq_no}
 use Rattle.sk_coherence_laws.proofs.ServesLemmas.{there_or, not_there, grows_same, grows-trans}
 use Rattle.sk_coherence_laws.proofs.StateLemmas.{same_store}
 use Rattle.sk_coherence_laws.proofs.TracedWrite.{some_home}
@@ -71,6 +72,19 @@ spoilt-none old new s same = subst (λ (x : MessagesView). Spoils old x s 0 0) (
   cells = refl;
 })
 
+-- no message that is in flight is over a store that was not opened
+mails-new : (a n : DirectoryView) (s lo hi : ℕ) → IsSound a → s ≡ a.next → Spoils a.messages n.messages s lo hi → (number : ℕ) → mail_at n number ≡ mail_at a number
+mails-new a n s lo hi sound next spoilt number = spoilt.left number ∙ on (mail_at a number) (sound.mailed.mails number)
+  where
+    on : (o : Option Mail) → IfSome o (IsMail a.spaces.memories.next a.next (copy_at a) (cells_of_copy a)) → left_of s lo hi o ≡ o
+    on None is = refl
+    on (Some mail) is =
+        let apart : mail.store ≢ s = λ e. omega (arith, e, next, is.given_store) in
+        ap (λ (t : Bool). if t && do_overlap lo hi mail.lo mail.hi then None else Some mail) (eq_no mail.store s apart)
+
+mails-kept : (a n : DirectoryView) → n.messages ≡ a.messages → (number : ℕ) → mail_at n number ≡ mail_at a number
+mails-kept a n same number = ap (λ (x : MessagesView). mail_of x number) same
+
 -- no copy is one of the next store
 module _ (a : DirectoryView) (sound : IsSound a) where
   unlisted_next : (o : Option StoreView) (k : ℕ) → o ≡ None → k < length (copies_in o) → ⊥
@@ -95,7 +109,9 @@ module _ (a : DirectoryView) (sound : IsSound a) where
       ranks = refl;
       capacity = refl;
     };
+    mails = λ number. refl;
     messages = (0, spoilt-none a.messages a.messages a.next refl);
+    named = refl;
     next = omega arith;
     unowned = λ i x h. not-next h.at h.store;
   }
@@ -271,7 +287,9 @@ module _ (a : DirectoryView) (sound : IsSound a) where
   pub undoes-served : (n : DirectoryView) → Serves a n → Undoes a n
   undoes-served n y = record {
     spares = spares-serves a undoes-none.spares n y;
+    mails = mails-kept a n y.messages;
     messages = (0, spoilt-none a.messages n.messages a.next y.messages);
+    named = y.named;
     next = omega (arith, y.next);
     unowned = λ i x h. undoes-none.unowned i x (has-before a n a.next i x y h);
   }
@@ -304,6 +322,12 @@ writes-same b n id k cells x same w =
     let many : length (replicate k x) ≡ k = grind (arith, common_steps) in
     subst (λ (h : ℕ). Writes b n id 0 h (replicate k x)) many (subst (λ (xs : List ℤ). Writes b n id 0 (length xs) xs) same w)
 
+-- there are some of them where there is one
+pub some-same : (k : ℕ) (cells : List ℤ) (x : ℤ) → cells ≡ replicate k x → 0 < length cells → 0 < k
+some-same k cells x same some =
+    let many : length (replicate k x) ≡ k = grind (arith, common_steps) in
+    omega (arith, some, ap length same, many)
+
 -- either way
 pub either : {A E P Q C : Type 0} (r : Result A E) → OnOk r P → OnErr r Q → (P → C) → (Q → C) → C
 either (Ok x) ok err f g = f ok
@@ -321,17 +345,22 @@ module _ (a b : DirectoryView) (id : ℕ) (ty : Ty) (shape : List ℕ) (sound : 
   store_open : option_map unlisted (store_at b id) ≡ Some (opened ty shape None)
   store_open = ap (option_map unlisted) o.stores.here
 
-  pub makes-filled : (n : DirectoryView) (x : ℤ) → Writes b n id 0 (cells_of shape) (replicate (cells_of shape) x)
+  pub makes-filled : (n : DirectoryView) (x : ℤ) → 0 < cells_of shape → Writes b n id 0 (cells_of shape) (replicate (cells_of shape) x)
       → Makes a n (record { store = id; shape = shape }) ty x
-  makes-filled n x w =
-      let store : option_map unlisted (store_at n id) ≡ Some (opened ty shape None) = w.alters.stores id ∙ store_open in record {
+  makes-filled n x some w =
+      let store : option_map unlisted (store_at n id) ≡ Some (opened ty shape None) = w.alters.stores id ∙ store_open in
+      let spoilt : Spoils a.messages n.messages id 0 (cells_of shape)
+      = spoilt-between a.messages b.messages n.messages n.messages id 0 (cells_of shape) o.messages w.alters.messages refl in record {
         number = o.number;
         next = w.alters.next ∙ o.next;
         store = store;
         holds = holds-filled n (record { store = id; shape = shape }) ty x store w.has;
         spares = spares-write a sound b (spares-open a sound b id (opened ty shape None) o) n 0 (cells_of shape) (replicate (cells_of shape) x)
             (subst (λ (k : ℕ). Writes b n k 0 (cells_of shape) (replicate (cells_of shape) x)) o.number w);
-        messages = spoilt-between a.messages b.messages n.messages n.messages id 0 (cells_of shape) o.messages w.alters.messages refl;
+        mails = mails-new a n id 0 (cells_of shape) sound o.number spoilt;
+        messages = spoilt;
+        filled = λ any. w.alters.named;
+        empty = λ none. absurd (omega (arith, some, none));
       }
 
   pub makes-empty : (x : ℤ) → cells_of shape ≡ 0 → Makes a b (record { store = id; shape = shape }) ty x
@@ -341,14 +370,19 @@ module _ (a b : DirectoryView) (id : ℕ) (ty : Ty) (shape : List ℕ) (sound : 
     store = store_open;
     holds = holds-filled b (record { store = id; shape = shape }) ty x store_open (λ i above below. absurd (omega (arith, below, none)));
     spares = spares-open a sound b id (opened ty shape None) o;
+    mails = mails-kept a b o.messages;
     messages = subst (λ (k : ℕ). Spoils a.messages b.messages id 0 k) (sym none) (spoilt-none a.messages b.messages id o.messages);
+    filled = λ any. absurd (omega (arith, any, none));
+    empty = λ same. o.named;
   }
 
   module _ (m n : DirectoryView) (y : Serves b m) where
     pub undoes-left : Serves m n → Undoes a n
     undoes-left z = record {
       spares = spares-serves a sound m (spares-serves a sound b (spares-open a sound b id (opened ty shape None) o) m y) n z;
+      mails = mails-kept a n (z.messages ∙ y.messages ∙ o.messages);
       messages = (0, spoilt-none a.messages n.messages a.next (z.messages ∙ y.messages ∙ o.messages));
+      named = z.named ∙ y.named ∙ o.named;
       next = omega (arith, z.next, y.next, o.next);
       unowned = λ i x h. unowned-open a sound b id (opened ty shape None) o i x (has-before b m a.next i x y (has-before m n a.next i x z h));
     }
@@ -359,12 +393,13 @@ module _ (a b : DirectoryView) (id : ℕ) (ty : Ty) (shape : List ℕ) (sound : 
         let sp : Spares a m = spares-serves a sound b (spares-open a sound b id (opened ty shape None) o) m y in
         let room : changes_in (store_at m a.next) ≡ 0
         = ap (λ (k : ℕ). changes_in (store_at m k)) (sym o.number) ∙ room_of (store_at m id) (opened ty shape None) (y.stores id ∙ store_open) in
+        let spoilt : Spoils a.messages n.messages a.next 0 (len_in (store_at m a.next))
+        = spoilt-between a.messages m.messages n.messages n.messages a.next 0 (len_in (store_at m a.next)) (y.messages ∙ o.messages) e.messages refl in
         record {
           spares = spares-close a sound m sp n e room;
-          messages = (
-            len_in (store_at m a.next),
-            spoilt-between a.messages m.messages n.messages n.messages a.next 0 (len_in (store_at m a.next)) (y.messages ∙ o.messages) e.messages refl,
-          );
+          mails = mails-new a n a.next 0 (len_in (store_at m a.next)) sound refl spoilt;
+          messages = (len_in (store_at m a.next), spoilt);
+          named = c.named ∙ y.named ∙ o.named;
           next = omega (arith, c.next, y.next, o.next);
           unowned = unowned-close a sound m sp n e room;
         }

@@ -120,6 +120,7 @@ module _ (d w n : DirectoryView) (line : Step) (copy lo hi : ℕ) (cells : List 
       others = λ q ne. cells_put q ∙ written.others q ne;
       stores = subst (λ (v : DirectoryView). IfSome (copy_at d copy) (λ held. UsesWrite d.stores v.stores held.store)) (sym same) stores;
       owed = subst (λ (v : DirectoryView). IfSome (copy_at d copy) (λ held. v.owed ≡ d.owed - min (changes_in (store_at d held.store)) 2)) (sym same) owed;
+      named = ap (λ (v : DirectoryView). v.named) same ∙ written.named;
       messages = spoilt_put;
       aside = ap (λ (v : DirectoryView). v.aside) same ∙ written.aside;
       next = ap (λ (v : DirectoryView). v.next) same ∙ next;

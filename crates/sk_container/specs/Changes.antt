@@ -20,7 +20,8 @@ pub record GrowsBut (old new : DirectoryView) (s lo hi q : ℕ) : Type 0 where
       → cell_in (cells_of_copy new q) i ≡ cell_in (cells_of_copy old q) i
 
 -- the cells of these indices of store s are other ones now, and messages over them are spoilt; every other index keeps its owner's
--- cell, every other message is in flight still, each copy that is pinned stays, and every store but for the list of its copies
+-- cell, every other message is in flight still, each copy that is pinned stays, and every store but for the list of its copies; no
+-- step is left as which the next write is noted
 pub record Alters (old new : DirectoryView) (s lo hi : ℕ) : Type 0 where
   pub stays : (q : ℕ) → IsSome (copy_at old q) → GrowsBut old new s lo hi q ⊎ WasEvicted old new q
   pub fresh : (q : ℕ) → copy_at old q ≡ None → IsSome (copy_at new q)
@@ -30,19 +31,20 @@ pub record Alters (old new : DirectoryView) (s lo hi : ℕ) : Type 0 where
   pub stores : (t : ℕ) → option_map unlisted (store_at new t) ≡ option_map unlisted (store_at old t)
   pub next : new.next ≡ old.next
   pub owed : new.owed ≡ old.owed
+  pub named : new.named ≡ None
   pub messages : Spoils old.messages new.messages s lo hi
   pub aside : new.aside ≡ old.aside
   pub next_copy : old.spaces.memories.next ≤ new.spaces.memories.next
   pub ranks : new.spaces.memories.ranks ≡ old.spaces.memories.ranks
   pub capacity : new.spaces.memories.capacity ≡ old.spaces.memories.capacity
 
--- these indices of store s have these cells now, and nothing else changed
+-- these indices of store s have these cells now, no step is left as which the next write is noted, and nothing else changed
 pub record Writes (old new : DirectoryView) (s lo hi : ℕ) (cells : List ℤ) : Type 0 where
   pub alters : Alters old new s lo hi
   pub has : (i : ℕ) → lo ≤ i → i < hi → HasCell new s i (slice_index_or cells (i - lo) (pos 0))
 
 -- a copy that was acquired for writing owns these indices, with these cells, and has a pin less; each copy is as before elsewhere,
--- and messages over these indices are spoilt
+-- messages over these indices are spoilt, and no step is left as which the next write is noted
 pub record Puts (old new : DirectoryView) (copy lo hi : ℕ) (cells : List ℤ) : Type 0 where
   pub homes : (q : ℕ) → home_in (copy_at new q) ≡ home_in (copy_at old q)
   pub unpinned : pins_in (copy_at new copy) + 1 ≡ pins_in (copy_at old copy)
@@ -54,6 +56,7 @@ pub record Puts (old new : DirectoryView) (copy lo hi : ℕ) (cells : List ℤ) 
   pub others : (q : ℕ) → q ≢ copy → cells_of_copy new q ≡ cells_of_copy old q
   pub stores : IfSome (copy_at old copy) (λ held. UsesWrite old.stores new.stores held.store)
   pub owed : IfSome (copy_at old copy) (λ held. new.owed ≡ old.owed - min (changes_in (store_at old held.store)) 2)
+  pub named : new.named ≡ None
   pub messages : IfSome (copy_at old copy) (λ held. Spoils old.messages new.messages held.store lo hi)
   pub aside : new.aside ≡ old.aside
   pub next : new.next ≡ old.next

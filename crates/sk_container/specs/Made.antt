@@ -8,7 +8,7 @@ use Rattle.sk_spaces.specs.Machine.{Machine}
 use Rattle.sk_copy_states.specs.Copies.{pins_in, expected_in}
 use Rattle.sk_copy_states.specs.Stores.{opened}
 use Rattle.sk_messages.specs.Messages.{Spoils}
-use Rattle.sk_coherence_laws.specs.Directory.{DirectoryView, copy_at, store_at}
+use Rattle.sk_coherence_laws.specs.Directory.{DirectoryView, copy_at, store_at, mail_at}
 use Rattle.sk_coherence_laws.specs.Retires.{IsClosing}
 use Rattle.sk_coherence_laws.specs.Serves.{GrowsAt, WasEvicted, unlisted}
 use Rattle.sk_coherence_laws.specs.Steps.{Traces}
@@ -19,7 +19,7 @@ use Rattle.sk_container.specs.Lines.{IsHosting, TracesOne, TracesThen}
 use Rattle.sk_container.specs.Smart.{SmartView, Holds}
 
 -- what was there before a store was opened stays: each index keeps its owner's cell, each copy that is pinned stays, and every store
--- but for the list of its copies
+-- but for the list of its copies; of the step as which the next write is noted `Makes` and `Undoes` speak
 pub record Spares (old new : DirectoryView) : Type 0 where
   pub stays : (q : ℕ) → IsSome (copy_at old q) → GrowsAt old new q ⊎ WasEvicted old new q
   pub fresh : (q : ℕ) → copy_at old q ≡ None → IsSome (copy_at new q)
@@ -33,20 +33,26 @@ pub record Spares (old new : DirectoryView) : Type 0 where
   pub ranks : new.spaces.memories.ranks ≡ old.spaces.memories.ranks
   pub capacity : new.spaces.memories.capacity ≡ old.spaces.memories.capacity
 
--- a new store has this cell at each index, no message over it is in flight, and nothing else changed
+-- a new store has this cell at each index, every message is in flight still, and nothing else changed; but where it has cells, they
+-- were written, and no step is left as which the next write is noted
 pub record Makes (old new : DirectoryView) (smart : SmartView) (ty : Ty) (x : ℤ) : Type 0 where
   pub number : smart.store ≡ old.next
   pub next : new.next ≡ old.next + 1
   pub store : option_map unlisted (store_at new smart.store) ≡ Some (opened ty smart.shape None)
   pub holds : Holds new smart (replicate (cells_of smart.shape) x)
   pub spares : Spares old new
+  pub mails : (number : ℕ) → mail_at new number ≡ mail_at old number
   pub messages : Spoils old.messages new.messages smart.store 0 (cells_of smart.shape)
+  pub filled : 0 < cells_of smart.shape → new.named ≡ None
+  pub empty : cells_of smart.shape ≡ 0 → new.named ≡ old.named
 
--- nothing that was there changed, and every message over another store is in flight still; where memory was wanting for that too,
--- the new store is left, and nobody owns an index of it
+-- nothing that was there changed, nor the step as which the next write is noted, and every message is in flight still; where memory
+-- was wanting for that too, the new store is left, and nobody owns an index of it
 pub record Undoes (old new : DirectoryView) : Type 0 where
   pub spares : Spares old new
+  pub mails : (number : ℕ) → mail_at new number ≡ mail_at old number
   pub messages : (len : ℕ) × Spoils old.messages new.messages old.next 0 len
+  pub named : new.named ≡ old.named
   pub next : old.next ≤ new.next
   pub unowned : (i : ℕ) (x : ℤ) → HasCell new old.next i x → ⊥
 

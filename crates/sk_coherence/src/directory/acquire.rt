@@ -70,7 +70,9 @@ impl<J: Journal> Directory<J> {
     }
 
     /// The copy with exactly this block in a space, pinned once more, which may be read where it is needed. It is made where there
-    /// is none; on a rank other copies that are not pinned go for it, as the chooser picks, while there is too little room.
+    /// is none; on a rank other copies that are not pinned go for it, as the chooser picks, while there is too little room. Stale
+    /// runs are filled from the copy of least number in the same space that may be read there, or else from the owner. This costs
+    /// a look at each copy of the store for each run, and the moves of the cells.
     pub fn acquire_read<C: Chooser>(
         &mut self,
         alloc: Global,

@@ -2,7 +2,7 @@
 ghost use Rattle.std.specs.Prelude.{◌≡◌, ◌≢◌, ℕ, ◌+◌, ◌<◌, ◌≤◌, None, Some, IfSome, IfNone, IsSome, IfOk, OnOk, OnErr};
 ghost use Rattle.sk_copy_states.specs.Copies.{KeepsStates, ReachesIn, state_in};
 ghost use Rattle.sk_coherence_laws.specs.Directory.{copy_at};
-ghost use Rattle.sk_coherence_laws.specs.Moves.{CanMove, IsStaleAt};
+ghost use Rattle.sk_coherence_laws.specs.Moves.{CanMove, IsStaleAt, IsSourceAt};
 ghost use Rattle.sk_copy_states.specs.Sources.{MayRead};
 ghost use Rattle.sk_coherence_laws.specs.Owned.{HasOwnerAt};
 ghost use Rattle.sk_coherence_laws.specs.Serves.{Serves, GrowsAt};
@@ -46,6 +46,8 @@ impl<J: Journal> Directory<J> {
         ensures within { IfSome result (λ transfer. (run.lo < transfer.range.hi) × (transfer.range.hi ≤ run.hi)) }
         ensures can { IfSome result (λ transfer.
             CanMove self.now transfer.from.id to.id run.lo transfer.range.hi) }
+        ensures source { IfSome result (λ transfer.
+            IsSourceAt self.now transfer.from.id to.id run.lo transfer.range.hi) }
     {
         let held = self.copies.get(&to.id)?;
         let store = self.stores.get(&held.store)?;
@@ -61,10 +63,11 @@ impl<J: Journal> Directory<J> {
         })
     }
 
-    /// Fills stale indices of a copy from another copy of its store.
+    /// Fills stale indices of a copy from the copy of its store from which they have to come.
     pub(crate) fn fill_from(&mut self, alloc: Global, transfer: Transfer) -> Result<(), Memory>
         requires can { CanMove self.old transfer.from.id transfer.to.id transfer.range.lo transfer.range.hi }
         requires missing { IsStaleAt self.old transfer.to.id transfer.range.lo transfer.range.hi }
+        requires source { IsSourceAt self.old transfer.from.id transfer.to.id transfer.range.lo transfer.range.hi }
         ensures serves { Serves self.old self.new }
         ensures traced { Traces IsFill self.old self.new }
         ensures grows { (q : ℕ) → GrowsAt self.old self.new q }

@@ -3,7 +3,7 @@ ghost use Rattle.std.specs.Prelude.{◌≡◌, ◌≢◌, ℕ, ◌+◌, ◌-◌,
 ghost use Rattle.sk_copy_states.specs.Copies.{KeepsStates, ReachesIn, home_in, state_in, pins_in};
 ghost use Rattle.sk_copy_states.specs.Stores.{IsBlockOf};
 ghost use Rattle.sk_coherence_laws.specs.Directory.{copy_at, store_at};
-ghost use Rattle.sk_coherence_laws.specs.Moves.{CanMove, IsStaleAt};
+ghost use Rattle.sk_coherence_laws.specs.Moves.{CanMove, IsStaleAt, IsSourceAt};
 ghost use Rattle.sk_coherence_laws.specs.Owned.{HasOwnerAt, IsOwned};
 ghost use Rattle.sk_coherence_laws.specs.Serves.{Serves, GrowsAt};
 ghost use Rattle.sk_coherence_laws.specs.Acquires.{Acquires};
@@ -50,6 +50,7 @@ impl<J: Journal> Directory<J> {
         ensures above { run.lo < result.hi }
         ensures below { result.hi ≤ run.hi }
         ensures can { IfSome result.id (λ from. CanMove self.now from copy.id run.lo result.hi) }
+        ensures source { IfSome result.id (λ from. IsSourceAt self.now from copy.id run.lo result.hi) }
         ensures near { IfSome result.id (λ from. IsClose self.now from copy.id) }
         ensures none { IfNone result.id (IsAlone self.now copy.id run.lo result.hi) }
     {
@@ -209,7 +210,9 @@ impl<J: Journal> Directory<J> {
 
     /// The copy with exactly this block in a space, pinned once more, and the messages from the host that are left to do: they take
     /// exactly those of the needed indices that are still stale in it, each once. It is made where there is none; on a rank other
-    /// copies that are not pinned go for it, as the chooser picks, while there is too little room.
+    /// copies that are not pinned go for it, as the chooser picks, while there is too little room. Stale runs are filled from the
+    /// copy of least number in the same space that may be read there, or else are left to messages, and on the host filled from
+    /// the owner. This costs a look at each copy of the store for each run, and the moves of the cells.
     pub fn acquire_later<C: Chooser>(
         &mut self,
         alloc: Global,

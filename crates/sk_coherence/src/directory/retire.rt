@@ -9,7 +9,7 @@ ghost use Rattle.sk_coherence_laws.specs.Retires.{Stales, Thins, Retires, Closes
 ghost use Rattle.sk_coherence_laws.specs.Steps.{Traces};
 ghost use Rattle.sk_coherence_laws.specs.Traced.{IsLike, TracesStep};
 ghost use Rattle.sk_spaces.specs.Machine.{Machine};
-ghost use Rattle.sk_messages.specs.Messages.{Spoils};
+ghost use Rattle.sk_messages.specs.Messages.{MessagesView, Spoils};
 ghost use Rattle.sk_spaces.specs.Spaces.{Stays};
 
 use crate::directory::{Directory, note_ready};
@@ -144,22 +144,24 @@ impl<J: Journal> Directory<J> {
         }
     }
 
-    /// The messages over a range of a store will not come.
+    /// The messages over a range of a store will not come. Where the store has no copies, each of them has lost its copy.
     fn forget_messages(&mut self, store: StoreId, range: Range)
         ensures spoilt { Spoils self.old.messages self.new.messages store.id range.lo range.hi }
         ensures same { self.new ≡ record self.old { messages = self.new.messages } }
-        ensures traced { (m : Machine) → IsLike m self.old → IsLike m self.new }
+        ensures traced { ((q : ℕ) → store_in (copy_at self.old q) ≢ Some store.id) →
+            (m : Machine) → IsLike m self.old → IsLike m self.new }
     {
         self.messages.spoil(store.id, range);
     }
 
-    /// Notes that all indices of a store are stale, where one of them is owned. No message over them is in flight, and the journal
-    /// has room for the step.
+    /// Where an index of a store is owned, spoils the messages over the store and notes that all of its indices are stale. The
+    /// journal has room for the step.
     fn give_up(&mut self, store: StoreId)
         requires there { IsSome (store_at self.old store.id) }
-        requires spoilt { Spoils self.old.messages self.old.messages store.id 0 (len_in (store_at self.old store.id)) }
         requires ready { self.old.owed + 1 ≤ self.old.ready }
-        ensures same { self.new ≡ record self.old { spaces = self.new.spaces; ready = self.new.ready } }
+        ensures spoilt { (left : MessagesView) → Spoils self.new.messages left store.id 0 (len_in (store_at self.old store.id)) →
+            Spoils self.old.messages left store.id 0 (len_in (store_at self.old store.id)) }
+        ensures same { self.new ≡ record self.old { spaces = self.new.spaces; ready = self.new.ready; messages = self.new.messages } }
         ensures memories { self.new.spaces.memories ≡ self.old.spaces.memories }
         ensures ready { self.old.ready ≤ self.new.ready + 1 }
         ensures traced { Leads (IsClosing store.id (len_in (store_at self.old store.id))) (λ m. IsLike m self.old)
@@ -169,10 +171,12 @@ impl<J: Journal> Directory<J> {
         if !self.is_owned(store) {
             return;
         }
+        let hi = self.shape(store).cells();
+        self.forget_messages(store, Range { lo: 0, hi });
         let step = Step::Stale {
             store: store.id,
             lo: 0,
-            hi: self.shape(store).cells(),
+            hi,
         };
         let _ = self.note(self.alloc, step);
     }
@@ -210,10 +214,10 @@ impl<J: Journal> Directory<J> {
             lo: 0,
             hi: self.shape(store).cells(),
         };
-        self.forget_messages(store, whole);
         self.give_up(store);
         self.is_sound();
         self.free_among(store, whole);
+        self.forget_messages(store, whole);
         self.forget_store(store);
         Ok(())
     }

@@ -9,7 +9,7 @@ use Rattle.sk_coherence_laws.proofs.NamedMoves.{on_err_any}
 use Rattle.sk_coherence_laws.proofs.ServesLemmas.{idle-reserve, serves-idle}
 use Rattle.sk_container.specs.Lines.{TracesThen}
 use Rattle.sk_container.specs.Made.{IsMaking}
-use Rattle.sk_container.proofs.MadeLemmas.{makes-filled, writes-same, either, undoes-served, undoes-closed, undoes-left, notes-filled, traces-undone}
+use Rattle.sk_container.proofs.MadeLemmas.{makes-filled, some-same, writes-same, either, undoes-served, undoes-closed, undoes-left, notes-filled, traces-undone}
 use Rattle.sk_container.proofs.made.open_with.Goals as goal
 
 pub returns-in_err-store-clause-err : goal.returns-in_err-store-clause-err
@@ -22,7 +22,9 @@ returns-in_err-store-clause-traced g c = let a = c.args.dir.now in let e = c.in_
 
 pub returns-in-Ok-clause-made : goal.returns-in-Ok-clause-made
 returns-in-Ok-clause-made g c = let b = c.open.new.self in let n = c.fill_all.new.dir in let id = c.in_ok-store.store.id in let shape = c.args.shape.now in
+    let some : 0 < length c.args.cells.now = search rules in
     makes-filled c.args.dir.now b id c.args.ty shape c.is_sound.ensures c.in_ok-store.ensures.ok n c.args.cell
+    (some-same (cells_of shape) c.args.cells.now c.args.cell c.requires.same some)
     (writes-same b n id (cells_of shape) c.args.cells.now c.args.cell c.requires.same c.in-Ok.ensures.written)
 
 pub returns-in-Ok-clause-noted : goal.returns-in-Ok-clause-noted

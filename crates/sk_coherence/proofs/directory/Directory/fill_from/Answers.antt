@@ -1,7 +1,7 @@
 use Rattle.std.proofs.Common.{arith, sym, subst, ap, ◌∙◌}
 use Rattle.sk_copy_states.specs.Copies.{state_in}
 use Rattle.sk_coherence_laws.specs.Directory.{DirectoryView, copy_at}
-use Rattle.sk_coherence_laws.specs.Moves.{CanMove, IsStaleAt, Idles}
+use Rattle.sk_coherence_laws.specs.Moves.{CanMove, IsStaleAt, IsSourceAt, Idles}
 use Rattle.sk_coherence_laws.specs.Steps.{IsFill}
 use Rattle.sk_coherence_laws.proofs.ServesLemmas.{serves-idle, grows-idle, idle-reserve}
 use Rattle.sk_coherence_laws.proofs.FillSums.{traces-idle, idle-trans, sum-serves, sum-traced, sum-grows, sum-read}
@@ -106,6 +106,7 @@ returns-clause-traced g c =
     let can : CanMove b t.from.id t.to.id t.range.lo t.range.hi = can-on a b c.reserve.ensures.same t.from.id t.to.id t.range.lo t.range.hi c.requires.can in
     let missing : IsStaleAt b t.to.id t.range.lo t.range.hi = λ k above below. ap (λ x. state_in (copy_at x t.to.id) k) c.reserve.ensures.same ∙ c.requires.missing k above below in
     sum-traced a b n t.from.id t.to.id t.range.lo t.range.hi c.is_sound.ensures c.is_sound-2.ensures i can missing c.in_ok-fill.ensures.ok c.in_ok-fill.ensures.traced
+    (subst (λ (x : DirectoryView). IsSourceAt x t.from.id t.to.id t.range.lo t.range.hi) (sym c.reserve.ensures.same) c.requires.source)
 
 pub returns-clause-grows : goal.returns-clause-grows
 returns-clause-grows g c =
@@ -176,4 +177,5 @@ returns-clause-near g c =
     let can : CanMove b t.from.id t.to.id t.range.lo t.range.hi = can-on a b c.reserve.ensures.same t.from.id t.to.id t.range.lo t.range.hi c.requires.can in
     let missing : IsStaleAt b t.to.id t.range.lo t.range.hi = λ k above below. ap (λ x. state_in (copy_at x t.to.id) k) c.reserve.ensures.same ∙ c.requires.missing k above below in
     λ close. sum-near a b n t.from.id t.to.id t.range.lo t.range.hi c.is_sound-2.ensures i can missing c.in_ok-fill.ensures.ok c.in_ok-fill.ensures.traced
+    (subst (λ (x : DirectoryView). IsSourceAt x t.from.id t.to.id t.range.lo t.range.hi) (sym c.reserve.ensures.same) c.requires.source)
     (subst (λ (x : DirectoryView). IsClose x t.from.id t.to.id) (sym c.reserve.ensures.same) close)

@@ -3,7 +3,7 @@ use Rattle.sk_ranges.specs.declared.state.State.TheVariants.{Stale}
 use Rattle.sk_copy_states.specs.Copies.{state_in}
 use Rattle.sk_copy_states.specs.Sources.{MayRead}
 use Rattle.sk_coherence_laws.specs.Directory.{copy_at}
-use Rattle.sk_coherence_laws.specs.Moves.{CanMove}
+use Rattle.sk_coherence_laws.specs.Moves.{CanMove, IsSourceAt}
 use Rattle.sk_coherence_laws.proofs.FillSums.{read-more}
 use Rattle.sk_coherence.specs.Evicts.{IsOnHost}
 use Rattle.sk_coherence.proofs.directory.Directory.fill_next.Goals as goal
@@ -22,6 +22,14 @@ fill_from-requires-clause-missing g c =
     let e = c.in-Some-source.ensures in
     λ k above below. subst (λ (x : ℕ). state_in (copy_at a x) k ≡ Stale) (sym e.to)
     (c.in-Some.ensures.stale k (omega (arith, above, e.begins)) (omega (arith, below, e.within.1)))
+
+pub fill_from-requires-clause-source : goal.fill_from-requires-clause-source
+fill_from-requires-clause-source g c =
+    let a = c.args.self.now in
+    let t = c.in-Some-source.transfer in
+    let e = c.in-Some-source.ensures in
+    subst (λ (x : ℕ). IsSourceAt a t.from.id x t.range.lo t.range.hi) (sym e.to)
+    (subst (λ (x : ℕ). IsSourceAt a t.from.id c.args.copy.id x t.range.hi) (sym e.begins) e.source)
 
 pub returns-clause-part : goal.returns-clause-part
 returns-clause-part g c =

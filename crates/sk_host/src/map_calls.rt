@@ -17,13 +17,11 @@ use crate::loaded::Loaded;
 use crate::machine::{Lead, Stand};
 use crate::maps::{are_alike, computed};
 use crate::passed::MapCall;
-use crate::spare::Spare;
 use crate::workspace::Workspace;
 use sk_base::{Cell, Trap};
 use sk_isa::{Object, Plan};
 use sk_kernel::RunTrap;
 use sk_tree::ParamKind;
-use sk_vm::Frame;
 use std::alloc::{AllocError, Global};
 
 /// Calls a Map for containers, the result first, and the topmost values as its uniform arguments.
@@ -50,14 +48,7 @@ pub fn map(
     let base = stand.top - uniforms as usize;
     let given = &stack[base..stand.top];
     match compute(
-        alloc,
-        program,
-        instance,
-        containers,
-        given,
-        store,
-        &mut workspace.frame,
-        &mut workspace.spare,
+        alloc, program, instance, containers, given, store, workspace,
     )? {
         Ok(cells) => {
             workspace.spare.keep(refill(store, containers[0], cells));
@@ -75,8 +66,7 @@ fn compute(
     containers: &[u32],
     uniforms: &[Cell],
     store: &[Option<Held>],
-    frame: &mut Frame,
-    spare: &mut Spare,
+    workspace: &mut Workspace,
 ) -> Result<Result<Vec<Cell>, RunTrap>, AllocError>
     requires rooms { AreRooms program.now.object.now program.now.rooms.now }
     requires there { instance < length program.now.object.now.instances }
@@ -95,7 +85,14 @@ fn compute(
                     uniforms,
                     over,
                 };
-                computed(alloc, program, instance, &call, frame, spare)
+                computed(
+                    alloc,
+                    program,
+                    instance,
+                    &call,
+                    &mut workspace.frame,
+                    &mut workspace.spare,
+                )
             } else {
                 Ok(Err(RunTrap {
                     trap: Trap::Shape,

@@ -8,7 +8,7 @@ use Rattle.sk_kernel.specs.Kernels.{AgreeRun, given_by}
 
 pub returns-in-Ok-clause-values : goal.returns-in-Ok-clause-values
 returns-in-Ok-clause-values g c cells agree =
-    let made = c.in_ok-cells.ensures in
+    let made = c.in_ok-cells.ensures.count in
     let sized = c.in_ok-cells.cells.ok.0 in
     let count = c.cells-count.ensures.value in
     let seen = c.deref_mut.ensures.len in
@@ -23,7 +23,7 @@ returns-in-Ok-clause-values g c cells agree =
 
 pub returns-in-Err-clause-values : goal.returns-in-Err-clause-values
 returns-in-Err-clause-values g c cells agree =
-    let made = c.in_ok-cells.ensures in
+    let made = c.in_ok-cells.ensures.count in
     let sized = c.in_ok-cells.cells.ok.0 in
     let count = c.cells-count.ensures.value in
     let seen = c.deref_mut.ensures.len in

@@ -1,0 +1,2 @@
+pub mod IndexedObject
+pub mod Suited

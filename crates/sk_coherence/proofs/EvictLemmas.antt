@@ -6,19 +6,22 @@ use Rattle.sk_spaces.specs.declared.step.Step.TheVariants.{Free}
 use Rattle.sk_spaces.specs.Blocks.{BlockView, taken_in}
 use Rattle.sk_spaces.specs.Spaces.{used_at}
 use Rattle.sk_copy_states.specs.declared.held.Held.{Held}
-use Rattle.sk_copy_states.specs.Copies.{home_in, store_in, state_in, pins_in}
+use Rattle.sk_spaces.specs.Machine.{Home}
+use Rattle.sk_copy_states.specs.Copies.{home_in, home_store, store_in, state_in, pins_in}
 use Rattle.sk_copy_states.specs.Stores.{StoreView}
 use Rattle.sk_coherence_laws.specs.Directory.{DirectoryView, copy_at, store_at, cells_of_copy, block_home, IsSound}
 use Rattle.sk_coherence_laws.specs.Traced.{TracesStep}
 use Rattle.sk_coherence_laws.specs.Frees.{FreesCopy, FreesSome}
 use Rattle.sk_coherence_laws.specs.Moves.{Idles}
 use Rattle.sk_coherence_laws.specs.Serves.{Serves, GrowsAt, unlisted}
-use Rattle.sk_coherence_laws.specs.Steps.{Traces, IsEviction}
+use Rattle.sk_coherence_laws.specs.Steps.{Traces}
 use Rattle.sk_coherence_laws.proofs.FreeLemmas.{owner_stays}
 use Rattle.sk_coherence_laws.proofs.ServesLemmas.{not_there, grows_same, owner_same, grows-trans, serves-trans}
-use Rattle.sk_coherence_laws.proofs.TracesLemmas.{traces-trans, traces-one}
-use Rattle.sk_coherence.specs.Evicts.{IsFar, TracesEviction, Retreats, Evicts}
-use Rattle.sk_coherence.proofs.RetreatLemmas.{retreats-trans, retreats-idle, stands_in}
+use Rattle.sk_coherence_laws.proofs.TracesLemmas.{traces-map, traces-trans, traces-one}
+use Rattle.sk_coherence_laws.proofs.HostLemmas.{makes-trans}
+use Rattle.sk_coherence.specs.Evicts.{IsFar, IsBackHome, IsEviction, MakesBack, TracesEviction, Retreats, Evicts}
+use Rattle.sk_coherence.proofs.BackHomes.{eviction-was}
+use Rattle.sk_coherence.proofs.RetreatLemmas.{retreats-trans, retreats-idle, retreat-hosts, stands_in}
 
 taken_same : (space : ℕ) (b c : Option BlockView) → block_home b ≡ block_home c → taken_in space b ≡ taken_in space c
 taken_same space None None same = refl
@@ -78,8 +81,12 @@ module _ (d n : DirectoryView) (id s : ℕ) (st now : StoreView) (sound : IsSoun
   }
 
   pub traces-free : TracesStep d n (Free id) → TracesEviction d n id
-  traces-free traced space some is = traces-one (IsEviction id space (used_at d.spaces space)) d n (Free id) f.noted traced
-      (λ m l. (refl, l.used space some, stands_in (m.copies id) (copy_at d id) space (l.copies id) (store_there (copy_at d id) s f.home) is))
+  traces-free traced space some is = traces-one (IsEviction d id space (used_at d.spaces space)) d n (Free id) f.noted traced
+      (λ m l. record {
+        leaves = inr (inr refl);
+        stands = stands_in (m.copies id) (copy_at d id) space (l.copies id) (store_there (copy_at d id) s f.home) is;
+        taken = l.used space some;
+      })
       (λ m l. refl)
 
 -- all that the copy owned went back, room was made in the journal, and the copy was freed
@@ -115,7 +122,17 @@ module _ (a b k n : DirectoryView) (id : ℕ) (sa : IsSound a) (sk : IsSound k) 
         omega (arith, f.3.memories.used space, same, gone_back.used space some);
   }
 
+  -- what was made on the host is made
+  pub evicted-made : MakesBack a n id
+  evicted-made = makes-trans a k n (IsBackHome a id) (serves-free k n id f.0 f.1 f.2 sk f.3 unpinned_k far_k none_k) gone_back.made
+      (λ q none. ⊎_elim
+      (λ (e : q ≡ id). subst (λ (h : Option Home). IfSome h (IsBackHome a id)) (sym (ap (λ x. home_in (copy_at n x)) e ∙ ap home_in f.3.copies.here)) tt)
+      (λ (ne : q ≢ id). subst (λ (h : Option Home). IfSome h (IsBackHome a id)) (sym (ap home_in (f.3.copies.others q ne) ∙ ap home_in none)) tt)
+      (cases_eq q id))
+
   pub evicted-traced : TracesStep k n (Free id) → TracesEviction a n id
-  evicted-traced t space some is = traces-trans (IsEviction id space (used_at a.spaces space)) a k n (gone_back.traced space some is)
-      (subst (λ (u : ℕ). Traces (IsEviction id space u) k n) (gone_back.used space some)
-      (traces-free k n id f.0 f.1 f.2 sk f.3 unpinned_k far_k none_k t space some (subst (λ h. IfSome h (λ home. home.space ≡ space)) (sym home_k) is)))
+  evicted-traced t space some is = traces-trans (IsEviction a id space (used_at a.spaces space)) a k n (gone_back.traced space some is)
+      (traces-map (IsEviction k id space (used_at a.spaces space)) (IsEviction a id space (used_at a.spaces space)) k n
+      (eviction-was a k gone_back.serves (retreat-hosts a k id gone_back) id space (used_at a.spaces space) (ap home_store home_k) gone_back.owns)
+      (subst (λ (u : ℕ). Traces (IsEviction k id space u) k n) (gone_back.used space some)
+      (traces-free k n id f.0 f.1 f.2 sk f.3 unpinned_k far_k none_k t space some (subst (λ h. IfSome h (λ home. home.space ≡ space)) (sym home_k) is))))

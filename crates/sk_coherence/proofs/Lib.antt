@@ -1,5 +1,6 @@
-pub mod StepKinds
+pub mod BackHomes
 pub mod PinnedLemmas
+pub mod LeftLemmas
 pub mod RetreatLemmas
 pub mod EvictLemmas
 pub mod WayLemmas

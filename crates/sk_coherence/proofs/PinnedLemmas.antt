@@ -20,7 +20,7 @@ pub pinned_there : (o : Option Held) → 0 < pins_in o → IsSome o
 pinned_there None some = absurd (omega (arith, some))
 pinned_there (Some held) some = refl
 
-far_on : (o p : Option Held) → home_in p ≡ home_in o → IsFar o → IsFar p
+pub far_on : (o p : Option Held) → home_in p ≡ home_in o → IsFar o → IsFar p
 far_on o p same far = subst (λ (h : Option Home). IfSome h (λ home. 0 < home.space)) (sym same) far
 
 pub far-trans : (a b n : DirectoryView) (but : ℕ) → KeepsFar a b but → KeepsFar b n but → KeepsFar a n but

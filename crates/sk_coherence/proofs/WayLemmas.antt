@@ -1,5 +1,5 @@
 -- The host's block for indices of a copy.
-use Rattle.std.proofs.Common.{◌≡◌, ℕ, ◌+◌, ◌<◌, ◌≤◌, Option, Some, None, IfSome, IsSome, arith, ⊎_elim, sym, subst, ◌∙◌, ap}
+use Rattle.std.proofs.Common.{◌≡◌, ℕ, ◌+◌, ◌<◌, ◌≤◌, Option, Some, None, IfSome, IsSome, arith, ⊎_elim, refl, sym, subst, ◌∙◌, ap}
 use Rattle.std.proofs.lemmas.Bool.{cases_lt}
 use Rattle.sk_base.specs.Shape.{cells_of}
 use Rattle.sk_ranges.specs.declared.state.State.TheVariants.{Stale, Owner}
@@ -8,9 +8,10 @@ use Rattle.sk_copy_states.specs.Held.{IsFit}
 use Rattle.sk_copy_states.specs.Copies.{ReachesIn, home_in, store_in, state_in}
 use Rattle.sk_copy_states.specs.Stores.{StoreView, IsBlockOf, len_in}
 use Rattle.sk_coherence_laws.specs.Directory.{DirectoryView, copy_at, store_at, LiesInside, IsSound}
+use Rattle.sk_coherence_laws.specs.HostBlocks.{home_at, IsHostBlock, IsHostHome}
 use Rattle.sk_coherence_laws.proofs.StateLemmas.{owner_not_stale}
 use Rattle.sk_coherence_laws.proofs.SourceLemmas.{reaches_readable}
-use Rattle.sk_coherence.specs.Evicts.{OwnsNone, Retreats}
+use Rattle.sk_coherence.specs.Evicts.{OwnsNone, IsBackHome, Retreats}
 
 inside_of : (d : DirectoryView) (o : Option Held) (s lo hi : ℕ) → LiesInside d (home_in o) → IsSome o → store_in o ≡ Some s → ReachesIn o lo hi → hi ≤ len_in (store_at d s)
 inside_of d None s lo hi inside there of reaches = cc
@@ -49,3 +50,20 @@ none_more a b n copy lo mid hi r before part i above below own = ⊎_elim
     (λ (x : i < mid). before i above x (r.owns i own))
     (λ (x : mid ≤ i). part i x below own)
     (cases_lt i mid)
+
+-- the host's block of an index of a store
+pub index-home : (d : DirectoryView) (s i lo hi : ℕ) → IsSome (store_at d s) → IfSome (store_at d s) (λ st. i < cells_of st.shape)
+    → IfSome (store_at d s) (λ st. IsHostBlock d s st i lo hi) → (k : IsHostHome d (home_at s 0 lo hi)) × (k.index ≡ i)
+index-home d s i lo hi there inside block = on (store_at d s) refl there inside block
+  where
+    on : (o : Option StoreView) → store_at d s ≡ o → IsSome o → IfSome o (λ st. i < cells_of st.shape) → IfSome o (λ st. IsHostBlock d s st i lo hi)
+        → (k : IsHostHome d (home_at s 0 lo hi)) × (k.index ≡ i)
+    on None is there inside block = cc
+    on (Some st) is there inside block = (record { host = refl; store = st; is = is; index = i; inside = inside; block = block }, refl)
+
+-- a block to which cells of a copy go back: that of an index that it owns
+pub back-home : (d : DirectoryView) (copy s i lo hi : ℕ) → store_in (copy_at d copy) ≡ Some s → state_in (copy_at d copy) i ≡ Owner → IsSome (store_at d s)
+    → IfSome (store_at d s) (λ st. i < cells_of st.shape) → IfSome (store_at d s) (λ st. IsHostBlock d s st i lo hi) → IsBackHome d copy (home_at s 0 lo hi)
+back-home d copy s i lo hi of own there inside block =
+    let k = index-home d s i lo hi there inside block in
+    record { store = of; host = k.0; owns = subst (λ (j : ℕ). state_in (copy_at d copy) j ≡ Owner) (sym k.1) own }

@@ -16,7 +16,7 @@ use Rattle.sk_coherence_laws.specs.HostBlocks.{HasBlock}
 use Rattle.sk_copy_states.specs.Sources.{MayRead}
 use Rattle.sk_coherence_laws.specs.Owned.{HasOwnerAt, IsOwned}
 use Rattle.sk_coherence_laws.specs.Serves.{Serves, GrowsAt, unlisted}
-use Rattle.sk_coherence_laws.specs.Steps.{Traces, IsAlloc, IsFill, IsServing}
+use Rattle.sk_coherence_laws.specs.Steps.{Traces, IsAlloc, IsFill, IsServing, AreFilled}
 use Rattle.sk_coherence_laws.specs.Acquires.{PinsOne, IsRoomFault}
 use Rattle.sk_coherence_laws.proofs.TracesLemmas.{traces-map, traces-trans, traces-none}
 
@@ -41,25 +41,19 @@ pub fault-room : (d : DirectoryView) (s space lo hi : ℕ) (fault : SpaceFault) 
 fault-room d s space lo hi (NoRoom used len capacity) is none = (is, none)
 fault-room d s space lo hi Memory is none = tt
 
-alloc-serving : (s space lo hi : ℕ) (m : Machine) (step : Step) → IsAlloc s space lo hi m step → IsServing s space lo hi m step
-alloc-serving s space lo hi m step is = inl is
+pub traces-place : (a b : DirectoryView) (home : Home) (from to : ℕ) → Traces (IsAlloc home) a b → Traces (IsServing home from to) a b
+traces-place a b home from to x = traces-map (IsAlloc home) (IsServing home from to) a b (λ m step is. inl is) x
 
-fill-serving : (s space lo hi : ℕ) (m : Machine) (step : Step) → IsFill m step → IsServing s space lo hi m step
-fill-serving s space lo hi m step is = inr is
-
-pub traces-place : (a b : DirectoryView) (s space lo hi : ℕ) → Traces (IsAlloc s space lo hi) a b → Traces (IsServing s space lo hi) a b
-traces-place a b s space lo hi x = traces-map (IsAlloc s space lo hi) (IsServing s space lo hi) a b (alloc-serving s space lo hi) x
-
-pub traces-filled : (a b n : DirectoryView) (s space lo hi : ℕ) → Traces (IsAlloc s space lo hi) a b → Traces IsFill b n → Traces (IsServing s space lo hi) a n
-traces-filled a b n s space lo hi x y = traces-trans (IsServing s space lo hi) a b n (traces-place a b s space lo hi x)
-    (traces-map IsFill (IsServing s space lo hi) b n (fill-serving s space lo hi) y)
+-- the copy was placed, and then filled
+pub traces-filled : (a b n : DirectoryView) (home : Home) (copy from to : ℕ) → home_in (copy_at b copy) ≡ Some home → Traces (IsAlloc home) a b → AreFilled b n copy from to
+    → Traces (IsServing home from to) a n
+traces-filled a b n home copy from to lies x y = traces-trans (IsServing home from to) a b n (traces-place a b home from to x)
+    (traces-map (IsFill home from to) (IsServing home from to) b n (λ m step is. inr is) (y home lies))
 
 -- a pin notes nothing
-pub traces-pinned : (a b n k : DirectoryView) (s space lo hi : ℕ) → Traces (IsAlloc s space lo hi) a b → Traces IsFill b n
-    → k ≡ record n { copies = k.copies } → ((m : Machine) → Rattle.sk_coherence_laws.specs.Traced.IsLike m n → Rattle.sk_coherence_laws.specs.Traced.IsLike m k)
-    → Traces (IsServing s space lo hi) a k
-traces-pinned a b n k s space lo hi x y same like = traces-trans (IsServing s space lo hi) a n k (traces-filled a b n s space lo hi x y)
-    (traces-none (IsServing s space lo hi) n k (record {
+pub traces-pin : (P : Machine → Step → Type 0) (a n k : DirectoryView) → Traces P a n → k ≡ record n { copies = k.copies } → ((m : Machine) → IsLike m n → IsLike m k) → Traces P a k
+traces-pin P a n k x same like = traces-trans P a n k x
+    (traces-none P n k (record {
       steps = ap (λ (v : DirectoryView). v.spaces.journal.steps) same;
       totals = ap (λ (v : DirectoryView). v.spaces.journal.totals) same;
     }) like)
@@ -99,13 +93,13 @@ pub store-stays : (a b : DirectoryView) (s : ℕ) → Serves a b → IsSome (sto
 store-stays a b s x there = store_some (store_at a s) (store_at b s) (x.stores s) there
 
 -- room for a write is made without a step
-pub traces-owed : (a b r n : DirectoryView) (s space lo hi : ℕ) → Traces (IsAlloc s space lo hi) a b → Idles b r → n.spaces ≡ r.spaces
-    → ((m : Machine) → IsLike m r → IsLike m n) → Traces (IsAlloc s space lo hi) a n
-traces-owed a b r n s space lo hi x i same like = traces-trans (IsAlloc s space lo hi) a b n x
-    (traces-none (IsAlloc s space lo hi) b n (record {
+pub traces-owed : (a b r n : DirectoryView) (home : Home) → Traces (IsAlloc home) a b → Idles b r → n.spaces ≡ r.spaces
+    → ((m : Machine) → IsLike m r → IsLike m n) → Traces (IsAlloc home) a n
+traces-owed a b r n home x i same like = traces-trans (IsAlloc home) a b n x
+    (traces-none (IsAlloc home) b n (record {
       steps = ap (λ (v : SpacesView). v.journal.steps) same ∙ i.spaces.journal.steps;
       totals = ap (λ (v : SpacesView). v.journal.totals) same ∙ i.spaces.journal.totals;
     }) (λ m l. like m (like-idle b r i m l)))
 
-pub traces-idled : (a b n : DirectoryView) (s space lo hi : ℕ) → Traces (IsAlloc s space lo hi) a b → Idles b n → Traces (IsAlloc s space lo hi) a n
-traces-idled a b n s space lo hi x i = traces-trans (IsAlloc s space lo hi) a b n x (traces-idle (IsAlloc s space lo hi) b n i)
+pub traces-idled : (a b n : DirectoryView) (home : Home) → Traces (IsAlloc home) a b → Idles b n → Traces (IsAlloc home) a n
+traces-idled a b n home x i = traces-trans (IsAlloc home) a b n x (traces-idle (IsAlloc home) b n i)

@@ -11,7 +11,7 @@ use Rattle.sk_coherence_laws.specs.Moves.{CanMove, Fills, IsStaleAt, IsSourceAt,
 use Rattle.sk_copy_states.specs.Sources.{MayRead}
 use Rattle.sk_coherence_laws.specs.Owned.{HasOwnerAt}
 use Rattle.sk_coherence_laws.specs.Serves.{Serves, GrowsAt}
-use Rattle.sk_coherence_laws.specs.Steps.{Traces, IsFill}
+use Rattle.sk_coherence_laws.specs.Steps.{Traces, IsFill, AreFilled}
 use Rattle.sk_coherence_laws.proofs.StateLemmas.{valid_not_stale}
 use Rattle.sk_coherence_laws.proofs.KeptLemmas.{like-kept}
 use Rattle.sk_coherence_laws.proofs.ServesLemmas.{serves-trans, serves-idle, serves-fill, grows-idle, grows-fill, grows-trans}
@@ -54,10 +54,10 @@ module _ (a b n : DirectoryView) (from to lo hi : ℕ) (sa : IsSound a) (sb : Is
   pub sum-serves : Serves a n
   sum-serves = serves-trans a b n sa (serves-idle a b i) (serves-fill b n from to lo hi f missing)
 
-  pub sum-traced : IsSourceAt b from to lo hi → Traces IsFill a n
-  sum-traced source = traces-trans IsFill a b n (traces-idle IsFill a b i)
-      (traces-one IsFill b n (Copy from to lo hi) f.rest.noted t
-      (λ m l. is-fill m b from to lo hi l can.source can.target missing source)
+  pub sum-traced : lo < hi → IsSourceAt b from to lo hi → AreFilled a n to lo hi
+  sum-traced some source home lies = traces-trans (IsFill home lo hi) a b n (traces-idle (IsFill home lo hi) a b i)
+      (traces-one (IsFill home lo hi) b n (Copy from to lo hi) f.rest.noted t
+      (λ m l. is-fill m b from to lo hi home l can.source can.target ((i.copies to).home ∙ lies) some missing source)
       (λ m l. far_same m b from to sb l))
 
   pub sum-grows : (q : ℕ) → GrowsAt a n q

@@ -24,6 +24,7 @@ pub mod SourceLemmas
 pub mod FillSums
 pub mod PlaceLemmas
 pub mod AcquireLemmas
+pub mod HostLemmas
 pub mod OweLemmas
 pub mod RebindLemmas
 pub mod PlacedLemmas

@@ -48,7 +48,7 @@ move-of-source d s space to lo hi id sound some home there reaches missing sourc
       readable = l.1;
     }
 
-some_eq : (x y : ℕ) → Some x ≡ Some y → x ≡ y
+pub some_eq : (x y : ℕ) → Some x ≡ Some y → x ≡ y
 some_eq x y same = cc
 
 -- copies of one store in one space are near

@@ -6,7 +6,7 @@ use Rattle.sk_spaces.specs.declared.step.Step.TheVariants.{Copy}
 use Rattle.sk_spaces.specs.declared.totals.Totals.{Totals}
 use Rattle.sk_spaces.specs.Journal.{with_step, with_last, IsSame}
 use Rattle.sk_spaces.specs.Machine.{Machine, Home, CopyState, unused, live, freed}
-use Rattle.sk_spaces.specs.Rules.{after, after_all}
+use Rattle.sk_spaces.specs.Rules.{IsLegal, after, after_all}
 use Rattle.sk_spaces.specs.Blocks.{BlockView}
 use Rattle.sk_spaces.specs.Memories.{are_far, is_far}
 use Rattle.sk_spaces.specs.Spaces.{NotesStep}
@@ -16,7 +16,7 @@ use Rattle.sk_copy_states.specs.Copies.{home_in}
 use Rattle.sk_coherence_laws.specs.Directory.{DirectoryView, copy_at, cells_of_copy, block_home, IsSound}
 use Rattle.sk_coherence_laws.specs.Traced.{IsLike, TracesStep, live_home}
 use Rattle.sk_coherence_laws.specs.Moves.{IsStaleAt, OwnsAt, AreNear, IsStaleNear, IsSourceAt}
-use Rattle.sk_coherence_laws.specs.Steps.{Traces, AreDone, goes_far, lie_apart, counted, IsStaleBeside, IsSource, IsFill}
+use Rattle.sk_coherence_laws.specs.Steps.{Traces, AreDone, goes_far, lie_apart, counted, IsAbsent, IsStaleBeside, IsSource, IsFill, AreFilled}
 
 pub done-append : (P : Machine → Step → Type 0) (m : Machine) (xs ys : List Step) → AreDone P m xs → AreDone P (after_all m xs) ys → AreDone P m (xs ++ ys)
 done-append P m [] ys x y = y
@@ -91,6 +91,21 @@ traces-map P Q a b more x = record {
   counted_all = x.counted_all;
 }
 
+-- what is so of each step where it comes, by what stays so of the machine
+done-with : (P Q : Machine → Step → Type 0) (I : Machine → Type 0) → ((m : Machine) (step : Step) → I m → IsLegal m step → P m step → Q m step × I (after m step))
+    → (m : Machine) (xs : List Step) → I m → AreDone P m xs → AreDone Q m xs
+done-with P Q I more m [] holds x = tt
+done-with P Q I more m (step ∷ xs) holds x = let t = more m step holds x.0 x.1 in (x.0, t.0, done-with P Q I more (after m step) xs t.1 x.2)
+
+pub traces-with : (P Q : Machine → Step → Type 0) (I : Machine → Type 0) (a b : DirectoryView) → ((m : Machine) → IsLike m a → I m)
+    → ((m : Machine) (step : Step) → I m → IsLegal m step → P m step → Q m step × I (after m step)) → Traces P a b → Traces Q a b
+traces-with P Q I a b start more x = record {
+  steps = x.steps;
+  told = x.told;
+  done = λ m l. let p = x.done m l in (done-with P Q I more m x.steps (start m l) p.0, p.1);
+  counted_all = x.counted_all;
+}
+
 apart_same : (k j : CopyState) (a b : Option BlockView) → live_home k ≡ block_home a → live_home j ≡ block_home b → lie_apart k j ≡ are_far a b
 apart_same (live h) (live g) (Some a) (Some b) x y =
     let one : h.space ≡ a.space = grind arith in
@@ -115,7 +130,7 @@ pub far_same : (m : Machine) (d : DirectoryView) (from to : ℕ) → IsSound d �
 far_same m d from to s l = apart_same (m.copies from) (m.copies to) (cells_of_copy d from) (cells_of_copy d to)
     (l.copies from ∙ sym (s.tied from)) (l.copies to ∙ sym (s.tied to))
 
-some_near : (o p : Option Held) → AreNear (home_in o) (home_in p) → IsSome o
+pub some_near : (o p : Option Held) → AreNear (home_in o) (home_in p) → IsSome o
 some_near None p near = absurd near
 some_near (Some o) p near = refl
 
@@ -139,10 +154,56 @@ source-in m d from to lo hi i l there source above below = ⊎_elim
     ))
     source
 
+-- what does not lie in the directory does not in the machine
+pub is-absent : (m : Machine) (d : DirectoryView) (home : Home) → IsLike m d → ((q : ℕ) → home_in (copy_at d q) ≡ Some home → ⊥) → IsAbsent home m
+is-absent m d home l none q lies = none q (sym (l.copies q) ∙ lies)
+
 -- stale indices are stale in the machine, and are filled from the copy from which they have to come
-pub is-fill : (m : Machine) (d : DirectoryView) (from to lo hi : ℕ) → IsLike m d → IsSome (copy_at d from) → IsSome (copy_at d to) → IsStaleAt d to lo hi
-    → IsSourceAt d from to lo hi → IsFill m (Copy from to lo hi)
-is-fill m d from to lo hi l some there missing source = λ i above below. (
-  l.marks to i there ∙ ap mark_of (missing i above below),
-  source-in m d from to lo hi i l some source above below,
+pub is-fill : (m : Machine) (d : DirectoryView) (from to lo hi : ℕ) (home : Home) → IsLike m d → IsSome (copy_at d from) → IsSome (copy_at d to)
+    → home_in (copy_at d to) ≡ Some home → lo < hi → IsStaleAt d to lo hi → IsSourceAt d from to lo hi → IsFill home lo hi m (Copy from to lo hi)
+is-fill m d from to lo hi home l some there lies ordered missing source = record {
+  source = from;
+  target = to;
+  lo = lo;
+  hi = hi;
+  step_is = refl;
+  target_home = l.copies to ∙ lies;
+  above = omega arith;
+  some = ordered;
+  below = omega arith;
+  missing = λ i above below. l.marks to i there ∙ ap mark_of (missing i above below);
+  sources = λ i above below. source-in m d from to lo hi i l some source above below;
+}
+
+-- what is filled among fewer indices is filled among more
+pub same-fill : (home : Home) (from to less more : ℕ) → less ≤ from → to ≤ more → (m : Machine) (step : Step) (f : IsFill home from to m step)
+    → (g : IsFill home less more m step) × (g.lo ≡ f.lo) × (g.hi ≡ f.hi)
+same-fill home from to less more above below m step f = (
+  record {
+    source = f.source;
+    target = f.target;
+    lo = f.lo;
+    hi = f.hi;
+    step_is = f.step_is;
+    target_home = f.target_home;
+    above = omega (arith, above, f.above);
+    some = f.some;
+    below = omega (arith, below, f.below);
+    missing = f.missing;
+    sources = f.sources;
+  },
+  refl,
+  refl,
 )
+
+pub fill-wider : (home : Home) (from to less more : ℕ) → less ≤ from → to ≤ more → (m : Machine) (step : Step) → IsFill home from to m step → IsFill home less more m step
+fill-wider home from to less more above below m step f = (same-fill home from to less more above below m step f).0
+
+pub filled-wider : (a b : DirectoryView) (copy from to less more : ℕ) → less ≤ from → to ≤ more → AreFilled a b copy from to → AreFilled a b copy less more
+filled-wider a b copy from to less more above below f home lies =
+    traces-map (IsFill home from to) (IsFill home less more) a b (fill-wider home from to less more above below) (f home lies)
+
+-- filled, and then filled again
+pub filled-trans : (a b n : DirectoryView) (copy from to : ℕ) → home_in (copy_at b copy) ≡ home_in (copy_at a copy) → AreFilled a b copy from to → AreFilled b n copy from to
+    → AreFilled a n copy from to
+filled-trans a b n copy from to same f g home lies = traces-trans (IsFill home from to) a b n (f home lies) (g home (same ∙ lies))

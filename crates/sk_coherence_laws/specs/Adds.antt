@@ -1,6 +1,7 @@
 -- A new copy.
 use Rattle.std.specs.Prelude.{◌≡◌, ◌≢◌, ℕ, ◌≤◌, Some, None, IfSome, IsSome}
 use Rattle.sk_ranges.specs.declared.state.State.TheVariants.{Stale}
+use Rattle.sk_spaces.specs.Machine.{Home}
 use Rattle.sk_spaces.specs.Memories.{AddsBlock, fresh_block}
 use Rattle.sk_spaces.specs.Spaces.{used_at}
 use Rattle.sk_copy_states.specs.declared.held.Held.{Held}
@@ -26,12 +27,13 @@ pub record AddsCopy (old new : DirectoryView) (id s space lo hi : ℕ) (st : Sto
   pub room : st.room ≤ held.states.reserved
   pub stale : (i : ℕ) → state_of held i ≡ Stale
 
--- a copy is found or made in one space: every other copy, and what is taken of every other space, is as before; what is made lies there
-pub record Places (old new : DirectoryView) (space : ℕ) : Type 0 where
+-- no copy is made but one that lies so: each copy that was there, and what is taken of every other space, is as before
+pub record Places (old new : DirectoryView) (home : Home) : Type 0 where
   pub kept : (q : ℕ) → IsSome (copy_at old q) → KeepsStates (copy_at old q) (copy_at new q)
-  pub used : (at : ℕ) → at ≢ space → used_at new.spaces at ≡ used_at old.spaces at
-  pub made : (q : ℕ) → copy_at old q ≡ None → IfSome (home_in (copy_at new q)) (λ home. home.space ≡ space)
+  pub used : (at : ℕ) → at ≢ home.space → used_at new.spaces at ≡ used_at old.spaces at
+  pub made : (q : ℕ) → copy_at old q ≡ None → IfSome (home_in (copy_at new q)) (λ at. at ≡ home)
 
--- there is a new copy of store s at these indices: all stale, and not pinned; nothing else changed but that it is listed
+-- there is a new copy of store s at these indices: all stale, and not pinned; of copies, stores, cells and messages nothing else
+-- changed but that it is listed
 abbrev pub AddsSome : DirectoryView → DirectoryView → ℕ → ℕ → ℕ → ℕ → ℕ → Type 0
 AddsSome old new id s space lo hi = (st : StoreView) × (held : Held) × AddsCopy old new id s space lo hi st held

@@ -62,7 +62,7 @@ pub record NotesOne (old new : DirectoryView) (step : Step) : Type 0 where
   pub used : (space : ℕ) → used_at new.spaces space ≡ used_at old.spaces space
   pub noted : NotesStep old.spaces new.spaces step
 
--- every copy, store, cell, message and step is as before; the journal may have more room
+-- every copy, store, cell, message and step is as before; the journal, and the copies for changes of their states, may have more room
 pub record Idles (old new : DirectoryView) : Type 0 where
   pub copies : (q : ℕ) → KeepsStates (copy_at old q) (copy_at new q)
   pub pins : (q : ℕ) → pins_in (copy_at new q) ≡ pins_in (copy_at old q)

@@ -1,12 +1,13 @@
 -- The steps that a call notes, one after another.
-use Rattle.std.specs.Prelude.{◌≡◌, ℕ, ◌+◌, ◌<◌, ◌≤◌, ◌==◌, Bool, false, not, List, [], ◌∷◌, ◌++◌, ⊤, option_map, ◌⊎◌}
+use Rattle.std.specs.Prelude.{◌≡◌, ℕ, ◌<◌, ◌≤◌, ◌==◌, Bool, false, not, List, [], ◌∷◌, ◌++◌, Some, ⊤, option_map, ◌⊎◌}
 use Rattle.sk_spaces.specs.declared.step.Step.{Step}
-use Rattle.sk_spaces.specs.declared.step.Step.TheVariants.{Alloc, Copy, Back, Send, Free}
+use Rattle.sk_spaces.specs.declared.step.Step.TheVariants.{Alloc, Copy, Back, Send}
 use Rattle.sk_spaces.specs.declared.totals.Totals.{Totals}
 use Rattle.sk_spaces.specs.Journal.{with_step}
-use Rattle.sk_spaces.specs.Machine.{Machine, CopyState, live, stale, owner}
+use Rattle.sk_spaces.specs.Machine.{Machine, Home, CopyState, live, stale, owner}
 use Rattle.sk_spaces.specs.Rules.{IsLegal, IsThere, after, after_all}
-use Rattle.sk_coherence_laws.specs.Directory.{DirectoryView}
+use Rattle.sk_copy_states.specs.Copies.{home_in}
+use Rattle.sk_coherence_laws.specs.Directory.{DirectoryView, copy_at}
 use Rattle.sk_coherence_laws.specs.Moves.{AreNear}
 use Rattle.sk_coherence_laws.specs.Traced.{IsLike, live_home}
 
@@ -40,10 +41,15 @@ pub record Traces (P : Machine → Step → Type 0) (old new : DirectoryView) : 
   pub done : (m : Machine) → IsLike m old → AreDone P m steps × IsLike (after_all m steps) new
   pub counted_all : (m : Machine) → IsLike m old → new.spaces.journal.totals ≡ counted m steps old.spaces.journal.totals
 
--- a copy with exactly this block is made
-abbrev pub IsAlloc : ℕ → ℕ → ℕ → ℕ → Machine → Step → Type 0
-IsAlloc store space lo hi m (Alloc id of at from to) = (of ≡ store) × (at ≡ space) × (from ≡ lo) × (to ≡ hi)
-IsAlloc store space lo hi m _ = ⊥
+-- no copy lies so
+abbrev pub IsAbsent : Home → Machine → Type 0
+IsAbsent home m = (q : ℕ) → live_home (m.copies q) ≡ Some home → ⊥
+
+-- the copy that lies so is made, where there is none
+pub record IsAlloc (home : Home) (m : Machine) (step : Step) : Type 0 where
+  pub id : ℕ
+  pub step_is : step ≡ Alloc id home.store home.space home.lo home.hi
+  pub absent : IsAbsent home m
 
 -- the copy with number q is stale at an index, if it is of the target's store and lies in its space
 abbrev pub IsStaleBeside : Machine → ℕ → ℕ → ℕ → Type 0
@@ -56,32 +62,33 @@ IsSource m source target i =
     (AreNear (live_home (m.copies source)) (live_home (m.copies target)) × ((q : ℕ) → q < source → IsStaleBeside m target i q))
     ⊎ ((m.marks source i ≡ owner) × ((q : ℕ) → IsStaleBeside m target i q))
 
--- cells are filled where they were stale, each from the copy from which it has to come
-abbrev pub IsFill : Machine → Step → Type 0
-IsFill m (Copy source target lo hi) = (i : ℕ) → lo ≤ i → i < hi → (m.marks target i ≡ stale) × IsSource m source target i
-IsFill m _ = ⊥
+-- some of the indices from ≤ i < to of the copy that lies so are filled, where they were stale, each from the copy from which it
+-- has to come
+pub record IsFill (home : Home) (from to : ℕ) (m : Machine) (step : Step) : Type 0 where
+  pub source : ℕ
+  pub target : ℕ
+  pub lo : ℕ
+  pub hi : ℕ
+  pub step_is : step ≡ Copy source target lo hi
+  pub target_home : live_home (m.copies target) ≡ Some home
+  pub above : from ≤ lo
+  pub some : lo < hi
+  pub below : hi ≤ to
+  pub missing : (i : ℕ) → lo ≤ i → i < hi → m.marks target i ≡ stale
+  pub sources : (i : ℕ) → lo ≤ i → i < hi → IsSource m source target i
 
--- a copy with exactly this block is made, or stale cells are filled
-abbrev pub IsServing : ℕ → ℕ → ℕ → ℕ → Machine → Step → Type 0
-IsServing store space lo hi m step = IsAlloc store space lo hi m step ⊎ IsFill m step
+-- the copy that lies so is made, or some of these indices of it are filled
+abbrev pub IsServing : Home → ℕ → ℕ → Machine → Step → Type 0
+IsServing home from to m step = IsAlloc home m step ⊎ IsFill home from to m step
+
+-- no copy of the store in the space of the one that lies so may be read at an index
+abbrev pub IsWanting : Home → Machine → ℕ → Type 0
+IsWanting home m i = (q : ℕ) → AreNear (live_home (m.copies q)) (Some home) → m.marks q i ≡ stale
 
 -- the copy is there and lies in the space
 abbrev pub StandsIn : ℕ → CopyState → Type 0
 StandsIn space state = IsThere state (λ home. home.space ≡ space)
 
--- a copy in a space, of which so many cells are taken, is written back to the host and goes
-abbrev pub IsEviction : ℕ → ℕ → ℕ → Machine → Step → Type 0
-IsEviction copy space used m (Alloc id store host lo hi) = host ≡ 0
-IsEviction copy space used m (Back source target lo hi) =
-    (source ≡ copy) × (m.used space ≡ used) × StandsIn 0 (m.copies target) × StandsIn space (m.copies source)
-IsEviction copy space used m (Free id) = (id ≡ copy) × (m.used space ≡ used) × StandsIn space (m.copies id)
-IsEviction copy space used m _ = ⊥
-
--- why an acquire of so many cells in a space takes a step: cells are filled where they were stale, each from the copy from which
--- it has to come; and a copy of that space is written back and goes only while there would be more in the space than its capacity
-abbrev pub IsDue : ℕ → ℕ → ℕ → Machine → Step → Type 0
-IsDue capacity space len m (Alloc id store at lo hi) = ⊤
-IsDue capacity space len m (Copy source target lo hi) = IsFill m (Copy source target lo hi)
-IsDue capacity space len m (Back source target lo hi) = (0 < space) × (capacity < m.used space + len) × StandsIn space (m.copies source)
-IsDue capacity space len m (Free id) = (0 < space) × (capacity < m.used space + len) × StandsIn space (m.copies id)
-IsDue capacity space len m _ = ⊥
+-- only indices from ≤ i < to of one copy were filled
+abbrev pub AreFilled : DirectoryView → DirectoryView → ℕ → ℕ → ℕ → Type 0
+AreFilled old new copy from to = (home : Home) → home_in (copy_at old copy) ≡ Some home → Traces (IsFill home from to) old new

@@ -2,7 +2,7 @@
 use Rattle.std.proofs.Common.{◌≡◌, ◌≢◌, ℕ, ℤ, ◌-◌, ◌<◌, ◌≤◌, ◌==◌, ◌&&◌, if◌then◌else◌, Bool, true, false, length, List, replicate, slice_index_or, pos, Option, Some, None, IfSome, IsSome, IsSomeAnd, option_map, Result, Ok, Err, OnOk, OnErr, arith, ⊎_elim, inl, inr, refl, sym, subst, ◌∙◌, ap}
 use Rattle.std.proofs.lemmas.Grind.{common_steps}
 use Rattle.sk_base.specs.declared.number.Ty.{Ty}
-use Rattle.sk_base.specs.Shape.{cells_of}
+use Rattle.sk_base.specs.Shape.{cells_of, shape_of}
 use Rattle.sk_spaces.specs.declared.step.Step.TheVariants as line
 use Rattle.sk_spaces.specs.Machine.{do_overlap}
 use Rattle.sk_spaces.specs.Memories.{MemoriesView, block_of}
@@ -11,9 +11,10 @@ use Rattle.sk_copy_states.specs.Copies.{held_in, home_in, home_store, store_in, 
 use Rattle.sk_copy_states.specs.Stores.{StoreView, copies_in, changes_in, len_in, opened}
 use Rattle.sk_messages.specs.Messages.{MessagesView, Mail, mail_of, left_of, Spoils}
 use Rattle.sk_coherence_laws.specs.Directory.{DirectoryView, copy_at, store_at, cells_of_copy, mail_at, IsSound, IsMail}
+use Rattle.sk_coherence_laws.specs.HostBlocks.{home_at}
 use Rattle.sk_coherence_laws.specs.Retires.{Closes, IsClosing}
 use Rattle.sk_coherence_laws.specs.Serves.{Serves, GrowsAt, WasEvicted, unlisted}
-use Rattle.sk_coherence_laws.specs.Steps.{Traces}
+use Rattle.sk_coherence_laws.specs.Steps.{Traces, IsAlloc}
 use Rattle.sk_coherence_laws.specs.Traced.{Opens, TracesStep}
 use Rattle.sk_coherence_laws.proofs.MailLemmas.{spoilt-between}
 use Rattle.sk_coherence_laws.proofs.OpenLemmas.{eq_no}
@@ -21,10 +22,11 @@ use Rattle.sk_coherence_laws.proofs.ServesLemmas.{there_or, not_there, grows_sam
 use Rattle.sk_coherence_laws.proofs.StateLemmas.{same_store}
 use Rattle.sk_coherence_laws.proofs.TracedWrite.{some_home}
 use Rattle.sk_coherence_laws.proofs.TracesLemmas.{traces-one, traces-trans, traces-map}
+use Rattle.sk_container.specs.declared.faults.ContainerFault.TheVariants as container
 use Rattle.sk_container.specs.Cells.{HasCell, IsElse}
 use Rattle.sk_container.specs.Changes.{GrowsBut, Writes}
-use Rattle.sk_container.specs.Lines.{IsHosting, TracesOne, TracesThen}
-use Rattle.sk_container.specs.Made.{Spares, Makes, Undoes, NotesMade, IsMaking}
+use Rattle.sk_container.specs.Lines.{TracesOne, TracesThen}
+use Rattle.sk_container.specs.Made.{Spares, Makes, Undoes, NotesMade, IsTrying, IsMaking, IsNotMade}
 use Rattle.sk_container.specs.Smart.{SmartView, Holds}
 use Rattle.sk_container.proofs.CellLemmas.{has-served, has-before}
 
@@ -113,6 +115,7 @@ module _ (a : DirectoryView) (sound : IsSound a) where
     messages = (0, spoilt-none a.messages a.messages a.next refl);
     named = refl;
     next = omega arith;
+    next_most = omega arith;
     unowned = λ i x h. not-next h.at h.store;
   }
 
@@ -291,6 +294,7 @@ module _ (a : DirectoryView) (sound : IsSound a) where
     messages = (0, spoilt-none a.messages n.messages a.next y.messages);
     named = y.named;
     next = omega (arith, y.next);
+    next_most = omega (arith, y.next);
     unowned = λ i x h. undoes-none.unowned i x (has-before a n a.next i x y h);
   }
 
@@ -327,6 +331,11 @@ pub some-same : (k : ℕ) (cells : List ℤ) (x : ℤ) → cells ≡ replicate k
 some-same k cells x same some =
     let many : length (replicate k x) ≡ k = grind (arith, common_steps) in
     omega (arith, some, ap length same, many)
+
+pub len-same-cells : (k : ℕ) (cells : List ℤ) (x : ℤ) → cells ≡ replicate k x → length cells ≡ k
+len-same-cells k cells x same =
+    let many : length (replicate k x) ≡ k = grind (arith, common_steps) in
+    ap length same ∙ many
 
 -- either way
 pub either : {A E P Q C : Type 0} (r : Result A E) → OnOk r P → OnErr r Q → (P → C) → (Q → C) → C
@@ -384,6 +393,7 @@ module _ (a b : DirectoryView) (id : ℕ) (ty : Ty) (shape : List ℕ) (sound : 
       messages = (0, spoilt-none a.messages n.messages a.next (z.messages ∙ y.messages ∙ o.messages));
       named = z.named ∙ y.named ∙ o.named;
       next = omega (arith, z.next, y.next, o.next);
+      next_most = omega (arith, z.next, y.next, o.next);
       unowned = λ i x h. unowned-open a sound b id (opened ty shape None) o i x (has-before b m a.next i x y (has-before m n a.next i x z h));
     }
 
@@ -401,12 +411,14 @@ module _ (a b : DirectoryView) (id : ℕ) (ty : Ty) (shape : List ℕ) (sound : 
           messages = (len_in (store_at m a.next), spoilt);
           named = c.named ∙ y.named ∙ o.named;
           next = omega (arith, c.next, y.next, o.next);
+          next_most = omega (arith, c.next, y.next, o.next);
           unowned = unowned-close a sound m sp n e room;
         }
 
 -- the lines of a store that is filled, with cells that are all the same
 pub notes-filled : (a b n : DirectoryView) (id : ℕ) (ty : Ty) (shape : List ℕ) (x : ℤ) (cells : List ℤ) → cells ≡ replicate (cells_of shape) x → 0 < length cells
-    → TracesOne (line.Store id ty shape) a b → TracesThen (λ copy. line.Fill copy 0 (length cells) x) b n
+    → TracesOne (line.Store id ty shape) a b
+    → TracesThen (IsAlloc (home_at id 0 0 (length cells))) (λ home. home ≡ home_at id 0 0 (length cells)) (λ copy. line.Fill copy 0 (length cells) x) b n
     → NotesMade a n (record { store = id; shape = shape }) ty x
 notes-filled a b n id ty shape x cells same some first filled =
     let many : length (replicate (cells_of shape) x) ≡ cells_of shape = grind (arith, common_steps) in
@@ -414,16 +426,49 @@ notes-filled a b n id ty shape x cells same some first filled =
     record {
       opened = b;
       first = first;
-      filled = λ any. subst (λ (k : ℕ). TracesThen (λ copy. line.Fill copy 0 k x) b n) all filled;
+      filled = λ any. subst (λ (k : ℕ). TracesThen (IsAlloc (home_at id 0 0 k)) (λ home. home ≡ home_at id 0 0 k) (λ copy. line.Fill copy 0 k x) b n) all filled;
       empty = λ none. absurd (omega (arith, none, all, some));
     }
 
+-- a store that is there with these sizes has so many cells
+pub len_unlisted : (o : Option StoreView) (ty : Ty) (shape : List ℕ) → option_map unlisted o ≡ Some (opened ty shape None) → len_in o ≡ cells_of shape
+len_unlisted None ty shape is = cc
+len_unlisted (Some store) ty shape is = same (unlisted store) (opened ty shape None) is
+  where
+    same : (s t : StoreView) → Some s ≡ Some t → cells_of s.shape ≡ cells_of t.shape
+    same s t e = cc
+
 -- the steps of a container that is not made
 module _ (a b m n : DirectoryView) (id len : ℕ) (ty : Ty) (shape : List ℕ) (o : Opens a b id (opened ty shape None)) (opens : TracesStep a b (line.Store id ty shape))
-    (fills : Traces IsHosting b m) (closes : Traces (IsClosing id len) m n) where
-  pub traces-undone : Traces (IsMaking a.next) a n
-  traces-undone = traces-trans (IsMaking a.next) a b n
-      (traces-one (IsMaking a.next) a b (line.Store id ty shape) o.spaces.noted opens (λ m l. inl o.number) (λ m l. refl))
-      (traces-trans (IsMaking a.next) b m n
-      (traces-map IsHosting (IsMaking a.next) b m (λ m step is. inr (inl is)) fills)
-      (traces-map (IsClosing id len) (IsMaking a.next) m n (λ m step is. inr (inr (len, subst (λ (k : ℕ). IsClosing k len m step) o.number is))) closes))
+    (all : len ≡ cells_of shape) (served : Serves b m) (fills : Traces (IsAlloc (home_at id 0 0 len)) b m)
+    (closes : Traces (IsClosing id (len_in (store_at m id))) m n) where
+  cells_left : len_in (store_at m id) ≡ cells_of shape
+  cells_left = len_unlisted (store_at m id) ty shape (served.stores id ∙ ap (option_map unlisted) o.stores.here)
+
+  pub traces-undone : Traces (IsTrying a.next ty shape) a n
+  traces-undone = subst (λ (k : ℕ). Traces (IsTrying k ty shape) a n) o.number
+      (traces-trans (IsTrying id ty shape) a b n
+      (traces-one (IsTrying id ty shape) a b (line.Store id ty shape) o.spaces.noted opens (λ m l. inl refl) (λ m l. refl))
+      (traces-trans (IsTrying id ty shape) b m n
+      (traces-map (IsAlloc (home_at id 0 0 len)) (IsTrying id ty shape) b m (λ m step is. inr (inl (subst (λ (k : ℕ). IsAlloc (home_at id 0 0 k) m step) all is))) fills)
+      (traces-map (IsClosing id (len_in (store_at m id))) (IsTrying id ty shape) m n
+      (λ k step is. inr (inr (subst (λ (c : ℕ). IsClosing id c k step) cells_left is))) closes)))
+
+-- of a container of these sizes
+pub traces-making : (a n : DirectoryView) (ty : Ty) (sizes : List ℤ) (shape : List ℕ) → shape_of sizes ≡ Some shape → Traces (IsTrying a.next ty shape) a n
+    → Traces (IsMaking a.next ty sizes) a n
+traces-making a n ty sizes shape is x = traces-map (IsTrying a.next ty shape) (IsMaking a.next ty sizes) a n (λ m step trying. (shape, is, trying)) x
+
+-- want of memory, where there is a shape with these sizes
+pub not-made : (a n : DirectoryView) (ty : Ty) (sizes : List ℤ) (shape : List ℕ) → shape_of sizes ≡ Some shape → Undoes a n → Traces (IsTrying a.next ty shape) a n
+    → IsNotMade a n sizes ty container.Memory
+not-made a n ty sizes shape is undoes x = record {
+  cause = subst (λ (o : Option (List ℕ)). IsSome o) (sym is) refl;
+  early = λ none. absurd (no_shape (shape_of sizes) is none);
+  undoes = undoes;
+  notes = traces-making a n ty sizes shape is x;
+}
+  where
+    no_shape : (o : Option (List ℕ)) → o ≡ Some shape → o ≡ None → ⊥
+    no_shape None some none = cc
+    no_shape (Some s) some none = cc

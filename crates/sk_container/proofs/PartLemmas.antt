@@ -1,5 +1,5 @@
 -- A range in one of the host's blocks lies in the block of its first index.
-use Rattle.std.proofs.Common.{◌≡◌, ℕ, ◌+◌, ◌*◌, ◌-◌, ◌/◌, ◌<◌, ◌≤◌, min, Bool, true, false, Option, Some, None, IfSome, IsSomeAnd, List, Result, Ok, Err, IfOk, arith, ⊎_elim, refl, sym, ◌∙◌, ap}
+use Rattle.std.proofs.Common.{◌≡◌, ℕ, ◌+◌, ◌*◌, ◌-◌, ◌/◌, ◌<◌, ◌≤◌, min, Bool, true, false, Option, Some, None, IfSome, IsSome, IsSomeAnd, List, Result, Ok, Err, IfOk, arith, ⊎_elim, refl, sym, ◌∙◌, ap}
 use Rattle.std.proofs.lemmas.Bool.{cases_lt}
 use Rattle.std.proofs.lemmas.Nat.{div-mul-add}
 use Rattle.sk_base.specs.Shape.{cells_of}
@@ -8,8 +8,9 @@ use Rattle.sk_spaces.specs.declared.memory.Memory.{Memory}
 use Rattle.sk_copy_states.specs.Copies.{home_in}
 use Rattle.sk_copy_states.specs.Stores.{StoreView}
 use Rattle.sk_coherence_laws.specs.Directory.{DirectoryView, copy_at, store_at}
-use Rattle.sk_coherence_laws.specs.HostBlocks.{HasBlock, IsHostBlock}
-use Rattle.sk_container.specs.Parts.{IsPart, IsHostCopy}
+use Rattle.sk_coherence_laws.specs.HostBlocks.{HasBlock, IsHostBlock, home_at}
+use Rattle.sk_container.specs.Parts.{IsPart, IsHostOf, IsHostCopy}
+use Rattle.sk_container.proofs.HostLines.{lies-so, there-with}
 
 -- two indices of one tile
 same_tile : (i k tile : ℕ) → k * tile ≤ i → i < k * tile + tile → i / tile ≡ k
@@ -91,8 +92,16 @@ pub len_same : (o : Option StoreView) (shape : List ℕ) (n k : ℕ) → IfSome 
 len_same None shape n k is len all = absurd all
 len_same (Some store) shape n k is len all = len ∙ ap cells_of is ∙ sym all
 
-pub if_ok_host : (d : DirectoryView) (s low high from to : ℕ) (r : Result CopyId Memory)
-    → IfOk r (λ copy. home_in (copy_at d copy.id) ≡ Some (record { store = s; space = 0; lo = from; hi = to })) → from ≤ low → high ≤ to
-    → IfOk r (λ copy. IsHostCopy d s copy.id low high)
-if_ok_host d s low high from to (Ok copy) is above below = record { from = from; to = to; home = is; above = above; below = below }
-if_ok_host d s low high from to (Err e) is above below = tt
+pub if_ok_host : (a b : DirectoryView) (s low high from to : ℕ) (r : Result CopyId Memory)
+    → IfOk r (λ copy. home_in (copy_at b copy.id) ≡ Some (home_at s 0 from to)) → IsHostOf a s low high (home_at s 0 from to)
+    → IfOk r (λ copy. IsHostCopy a b s copy.id low high)
+if_ok_host a b s low high from to (Ok copy) is host = lies-so b copy.id (home_at s 0 from to) (IsHostOf a s low high) is host
+if_ok_host a b s low high from to (Err e) is host = tt
+
+-- the index in whose block the range lies is one of the store's
+pub inside_at : (o : Option StoreView) (n i : ℕ) → IfSome o (λ store. n ≡ cells_of store.shape) → i < n → IfSome o (λ store. i < cells_of store.shape)
+inside_at None n i len inside = tt
+inside_at (Some store) n i len inside = omega (arith, len, inside)
+
+pub part-there : (d : DirectoryView) (s lo hi : ℕ) → IsPart d s lo hi → IsSome (store_at d s)
+part-there d s lo hi p = (there-with (store_at d s) (λ store. p.at < cells_of store.shape) p.inside).0

@@ -4,6 +4,7 @@ use Rattle.std.proofs.lemmas.Bool.{cases_eq}
 use Rattle.sk_spaces.specs.Blocks.{BlockView, IsWhole, cell_of}
 use Rattle.sk_spaces.specs.Machine.{Machine, Home}
 use Rattle.sk_spaces.specs.Spaces.{OnlyNotes}
+use Rattle.sk_spaces.specs.declared.step.Step.{Step}
 use Rattle.sk_spaces.specs.declared.step.Step.TheVariants as line
 use Rattle.sk_copy_states.specs.declared.held.Held.{Held}
 use Rattle.sk_copy_states.specs.Copies.{KeepsStates, home_in, home_store, store_in, state_in, cell_in, pins_in}
@@ -20,10 +21,10 @@ use Rattle.sk_coherence_laws.proofs.ServesLemmas.{serves-trans, serves-kept}
 use Rattle.sk_coherence_laws.proofs.TracesLemmas.{traces-trans, traces-none}
 use Rattle.sk_coherence.proofs.RoomLemmas.{owned-stays}
 use Rattle.sk_container.specs.Cells.{HasCell}
-use Rattle.sk_container.specs.Lines.{IsHosting, TracesThen}
+use Rattle.sk_container.specs.Lines.{TracesThen}
 use Rattle.sk_container.proofs.AlterLemmas.{host_home}
 use Rattle.sk_container.proofs.CellLemmas.{has-before, has-read, unpinned-back}
-use Rattle.sk_container.proofs.HostLines.{traces-read}
+use Rattle.sk_container.proofs.HostLines.{traces-read, lies-so}
 use Rattle.sk_container.proofs.PutLemmas.{Unpinned}
 
 -- where the journal alone changed
@@ -92,16 +93,18 @@ module _ (a c e : DirectoryView) (s copy from to : ℕ) (x : Acquires a c copy) 
       go (Some held) p is not = ap (λ o. state_in o i) not
 
   -- the line of the read, where the journal took it
-  pub noted-read : (n : DirectoryView) (i : ℕ) → Traces IsHosting a c → ((m : Machine) → IsLike m c → IsLike m e) → from ≤ i → i < to
+  pub noted-read : (P : Machine → Step → Type 0) (Q : Home → Type 0) (n : DirectoryView) (i : ℕ) → Q (host_home s from to) → Traces P a c
+      → ((m : Machine) → IsLike m c → IsLike m e) → from ≤ i → i < to
       → MayRead (copy_at c copy) i (i + 1) → OnlyNotes e.spaces n.spaces (line.Read copy i (i + 1)) → ((m : Machine) → IsLike m e → IsLike m n)
-      → TracesThen (λ (q : ℕ). line.Read q i (i + 1)) a n
-  noted-read n i traced like above below readable notes on = record {
+      → TracesThen P Q (λ (q : ℕ). line.Read q i (i + 1)) a n
+  noted-read P Q n i lies traced like above below readable notes on = record {
     before = e;
     copy = copy;
-    first = traces-trans IsHosting a c e traced (traces-none IsHosting c e (record {
+    first = traces-trans P a c e traced (traces-none P c e (record {
       steps = ap (λ (v : DirectoryView). v.spaces.journal.steps) same;
       totals = ap (λ (v : DirectoryView). v.spaces.journal.totals) same;
     }) like);
+    lies = lies-so e copy (host_home s from to) Q home_go lies;
     last = record {
       noted = notes.noted;
       traced = traces-read e copy i (i + 1) (host_home s from to) home_go refl above (omega (arith, below)) (omega arith)

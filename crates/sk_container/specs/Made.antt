@@ -4,18 +4,19 @@ use Rattle.sk_base.specs.declared.number.Ty.{Ty}
 use Rattle.sk_base.specs.Shape.{cells_of, shape_of}
 use Rattle.sk_spaces.specs.declared.step.Step.{Step}
 use Rattle.sk_spaces.specs.declared.step.Step.TheVariants.{Store, Fill}
-use Rattle.sk_spaces.specs.Machine.{Machine}
+use Rattle.sk_spaces.specs.Machine.{Machine, Home}
 use Rattle.sk_copy_states.specs.Copies.{pins_in, expected_in}
 use Rattle.sk_copy_states.specs.Stores.{opened}
 use Rattle.sk_messages.specs.Messages.{Spoils}
 use Rattle.sk_coherence_laws.specs.Directory.{DirectoryView, copy_at, store_at, mail_at}
+use Rattle.sk_coherence_laws.specs.HostBlocks.{home_at}
 use Rattle.sk_coherence_laws.specs.Retires.{IsClosing}
 use Rattle.sk_coherence_laws.specs.Serves.{GrowsAt, WasEvicted, unlisted}
-use Rattle.sk_coherence_laws.specs.Steps.{Traces}
+use Rattle.sk_coherence_laws.specs.Steps.{Traces, IsAlloc}
 use Rattle.sk_container.specs.declared.faults.ContainerFault.{ContainerFault}
 use Rattle.sk_container.specs.Cells.{HasCell}
 use Rattle.sk_container.specs.Faults.{IsContainerFault}
-use Rattle.sk_container.specs.Lines.{IsHosting, TracesOne, TracesThen}
+use Rattle.sk_container.specs.Lines.{TracesOne, TracesThen}
 use Rattle.sk_container.specs.Smart.{SmartView, Holds}
 
 -- what was there before a store was opened stays: each index keeps its owner's cell, each copy that is pinned stays, and every store
@@ -54,23 +55,30 @@ pub record Undoes (old new : DirectoryView) : Type 0 where
   pub messages : (len : ℕ) × Spoils old.messages new.messages old.next 0 len
   pub named : new.named ≡ old.named
   pub next : old.next ≤ new.next
+  pub next_most : new.next ≤ old.next + 1
   pub unowned : (i : ℕ) (x : ℤ) → HasCell new old.next i x → ⊥
 
--- the line of a new store was noted, and then one that fills it, where it has cells
+-- where the copy lies that has all cells of a new store
+abbrev pub whole_home : ℕ → List ℕ → Home
+whole_home s shape = home_at s 0 0 (cells_of shape)
+
+-- the line of a new store was noted, and then, where it has cells, that of its copy on the host, if there was none, and one that
+-- fills it
 pub record NotesMade (old new : DirectoryView) (smart : SmartView) (ty : Ty) (x : ℤ) : Type 0 where
   pub opened : DirectoryView
   pub first : TracesOne (Store smart.store ty smart.shape) old opened
-  pub filled : 0 < cells_of smart.shape → TracesThen (λ copy. Fill copy 0 (cells_of smart.shape) x) opened new
+  pub filled : 0 < cells_of smart.shape
+      → TracesThen (IsAlloc (whole_home smart.store smart.shape)) (λ home. home ≡ whole_home smart.store smart.shape)
+      (λ copy. Fill copy 0 (cells_of smart.shape) x) opened new
   pub empty : cells_of smart.shape ≡ 0 → new ≡ opened
 
--- this store is opened
-abbrev pub IsOpening : ℕ → Machine → Step → Type 0
-IsOpening s m (Store store ty shape) = store ≡ s
-IsOpening s m _ = ⊥
+-- why a store s with this type and shape that is not filled takes a step: it is opened, its copy is made, or it is closed again
+abbrev pub IsTrying : ℕ → Ty → List ℕ → Machine → Step → Type 0
+IsTrying s ty shape m step = (step ≡ Store s ty shape) ⊎ IsAlloc (whole_home s shape) m step ⊎ IsClosing s (cells_of shape) m step
 
--- why a container that is not made takes a step: its store is opened, a copy is made for it, or the store is closed again
-abbrev pub IsMaking : ℕ → Machine → Step → Type 0
-IsMaking s m step = IsOpening s m step ⊎ IsHosting m step ⊎ ((len : ℕ) × IsClosing s len m step)
+-- why a container of these sizes that is not made takes a step
+abbrev pub IsMaking : ℕ → Ty → List ℤ → Machine → Step → Type 0
+IsMaking s ty sizes m step = (shape : List ℕ) × (shape_of sizes ≡ Some shape) × IsTrying s ty shape m step
 
 -- a new container of these sizes, with this cell at each index
 pub record IsNew (old new : DirectoryView) (sizes : List ℤ) (ty : Ty) (x : ℤ) (smart : SmartView) : Type 0 where
@@ -79,8 +87,8 @@ pub record IsNew (old new : DirectoryView) (sizes : List ℤ) (ty : Ty) (x : ℤ
   pub notes : NotesMade old new smart ty x
 
 -- no container of these sizes, and why
-pub record IsNotMade (old new : DirectoryView) (sizes : List ℤ) (fault : ContainerFault) : Type 0 where
+pub record IsNotMade (old new : DirectoryView) (sizes : List ℤ) (ty : Ty) (fault : ContainerFault) : Type 0 where
   pub cause : IsContainerFault sizes fault
   pub early : shape_of sizes ≡ None → new ≡ old
   pub undoes : Undoes old new
-  pub notes : Traces (IsMaking old.next) old new
+  pub notes : Traces (IsMaking old.next ty sizes) old new

@@ -1,9 +1,10 @@
--- A range of a container's host copy.
-use Rattle.std.specs.Prelude.{◌≡◌, ℕ, ◌<◌, ◌≤◌, Some, IfSome, IsSomeAnd}
+-- Blocks of the host with a range of a container.
+use Rattle.std.specs.Prelude.{◌≡◌, ℕ, ◌<◌, ◌≤◌, IfSome, IsSomeAnd}
 use Rattle.sk_base.specs.Shape.{cells_of}
+use Rattle.sk_spaces.specs.Machine.{Home}
 use Rattle.sk_copy_states.specs.Copies.{home_in}
 use Rattle.sk_coherence_laws.specs.Directory.{DirectoryView, copy_at, store_at}
-use Rattle.sk_coherence_laws.specs.HostBlocks.{IsHostBlock}
+use Rattle.sk_coherence_laws.specs.HostBlocks.{IsHostBlock, IsHostHome}
 
 -- the indices lo ≤ i < hi lie in the host's block of an index of store s
 pub record IsPart (d : DirectoryView) (s lo hi : ℕ) : Type 0 where
@@ -15,10 +16,13 @@ pub record IsPart (d : DirectoryView) (s lo hi : ℕ) : Type 0 where
   pub above : from ≤ lo
   pub below : hi ≤ to
 
--- a copy of the host with the indices lo ≤ i < hi of store s
-pub record IsHostCopy (d : DirectoryView) (s copy lo hi : ℕ) : Type 0 where
-  pub from : ℕ
-  pub to : ℕ
-  pub home : home_in (copy_at d copy) ≡ Some (record { store = s; space = 0; lo = from; hi = to })
-  pub above : from ≤ lo
-  pub below : hi ≤ to
+-- the host's block with the indices lo ≤ i < hi of store s lies so
+pub record IsHostOf (d : DirectoryView) (s lo hi : ℕ) (home : Home) : Type 0 where
+  pub store : home.store ≡ s
+  pub host : IsHostHome d home
+  pub above : home.lo ≤ lo
+  pub below : hi ≤ home.hi
+
+-- a copy of the directory new with what was the host's block of these indices
+abbrev pub IsHostCopy : DirectoryView → DirectoryView → ℕ → ℕ → ℕ → ℕ → Type 0
+IsHostCopy old new s copy lo hi = IsSomeAnd (home_in (copy_at new copy)) (IsHostOf old s lo hi)

@@ -7,16 +7,17 @@ ghost use Rattle.sk_copy_states.specs.Sources.{MayRead};
 ghost use Rattle.sk_copy_states.specs.Stores.{IsBlockOf, changes_in, len_in};
 ghost use Rattle.sk_coherence_laws.specs.Acquires.{Acquires};
 ghost use Rattle.sk_coherence_laws.specs.Directory.{copy_at, store_at};
+ghost use Rattle.sk_coherence_laws.specs.HostBlocks.{home_at};
 ghost use Rattle.sk_coherence_laws.specs.Owes.{AcquiresWrite};
 ghost use Rattle.sk_coherence_laws.specs.Owned.{IsOwned};
 ghost use Rattle.sk_coherence_laws.specs.Serves.{Serves};
-ghost use Rattle.sk_coherence_laws.specs.Steps.{Traces};
+ghost use Rattle.sk_coherence_laws.specs.Steps.{Traces, IsAlloc, IsServing};
 ghost use Rattle.sk_coherence.specs.Evicts.{IsOnHost};
 ghost use Rattle.sk_coherence.specs.Named.{SaysWrite};
 ghost use Rattle.sk_container.specs.Cells.{HasCell};
 ghost use Rattle.sk_container.specs.Changes.{Puts, Writes};
-ghost use Rattle.sk_container.specs.Lines.{IsHosting, TracesOne, TracesThen};
-ghost use Rattle.sk_container.specs.Parts.{IsPart, IsHostCopy};
+ghost use Rattle.sk_container.specs.Lines.{IsPlacing, IsHosting, TracesOne, TracesThen};
+ghost use Rattle.sk_container.specs.Parts.{IsPart, IsHostOf, IsHostCopy};
 
 use sk_base::{Cell, Range};
 use sk_coherence::Directory;
@@ -40,10 +41,10 @@ fn acquire_read<J: Journal>(
     requires owned { (i : ℕ) → need.lo ≤ i → i < need.hi → IsOwned dir.old store.id i }
     ensures ok { IfOk result (λ copy. Acquires dir.old dir.new copy.id) }
     ensures home { IfOk result (λ copy. home_in (copy_at dir.new copy.id)
-        ≡ Some (record { store = store.id; space = 0; lo = block.lo; hi = block.hi })) }
+        ≡ Some (home_at store.id 0 block.lo block.hi)) }
     ensures readable { IfOk result (λ copy. MayRead (copy_at dir.new copy.id) need.lo need.hi) }
     ensures err { OnErr result (Serves dir.old dir.new) }
-    ensures traced { Traces IsHosting dir.old dir.new }
+    ensures traced { Traces (IsServing (home_at store.id 0 block.lo block.hi) need.lo need.hi) dir.old dir.new }
 {
     // On the host nothing gives way, so nothing is chosen.
     match dir.acquire_read(alloc, store, 0, block, need, &mut Seeded::new(0)) {
@@ -63,9 +64,9 @@ fn acquire_write<J: Journal>(
     requires block { IfSome (store_at dir.old store.id) (IsBlockOf block.lo block.hi) }
     ensures ok { IfOk result (λ copy. AcquiresWrite dir.old dir.new store.id copy.id) }
     ensures home { IfOk result (λ copy. home_in (copy_at dir.new copy.id)
-        ≡ Some (record { store = store.id; space = 0; lo = block.lo; hi = block.hi })) }
+        ≡ Some (home_at store.id 0 block.lo block.hi)) }
     ensures err { OnErr result (Serves dir.old dir.new) }
-    ensures traced { Traces IsHosting dir.old dir.new }
+    ensures traced { Traces (IsAlloc (home_at store.id 0 block.lo block.hi)) dir.old dir.new }
 {
     match dir.acquire_write(alloc, store, 0, block, &mut Seeded::new(0)) {
         Ok(copy) => Ok(copy),
@@ -109,9 +110,10 @@ pub(crate) fn read_at<J: Journal>(
     requires inside { IsSomeAnd (store_at dir.old store.id) (λ s. index < cells_of s.shape) }
     requires owned { IsOwned dir.old store.id index }
     ensures cell { IfOk result (λ cell. HasCell dir.old store.id index cell) }
-    ensures noted { OnOk result (TracesThen (λ copy. Step.Read copy index (index + 1)) dir.old dir.new) }
+    ensures noted { OnOk result (TracesThen (IsHosting dir.old store.id index (index + 1)) (IsHostOf dir.old store.id index (index + 1))
+        (λ copy. Step.Read copy index (index + 1)) dir.old dir.new) }
     ensures serves { Serves dir.old dir.new }
-    ensures traced { OnErr result (Traces IsHosting dir.old dir.new) }
+    ensures traced { OnErr result (Traces (IsHosting dir.old store.id index (index + 1)) dir.old dir.new) }
 {
     dir.is_sound();
     let block = dir.host_block(store, index);
@@ -142,9 +144,10 @@ pub(crate) fn write_at<J: Journal>(
 ) -> Result<(), Memory>
     requires inside { IsSomeAnd (store_at dir.old store.id) (λ s. index < cells_of s.shape) }
     ensures written { OnOk result (Writes dir.old dir.new store.id index (index + 1) (cell ∷ [])) }
-    ensures noted { OnOk result (TracesThen (λ copy. Step.Poke copy index cell) dir.old dir.new) }
+    ensures noted { OnOk result (TracesThen (IsPlacing dir.old store.id index (index + 1)) (IsHostOf dir.old store.id index (index + 1))
+        (λ copy. Step.Poke copy index cell) dir.old dir.new) }
     ensures err { OnErr result (Serves dir.old dir.new) }
-    ensures traced { OnErr result (Traces IsHosting dir.old dir.new) }
+    ensures traced { OnErr result (Traces (IsPlacing dir.old store.id index (index + 1)) dir.old dir.new) }
 {
     dir.is_sound();
     let block = dir.host_block(store, index);
@@ -174,9 +177,10 @@ pub(crate) fn fill_all<J: Journal>(
     requires all { IsSomeAnd (store_at dir.old store.id) (λ s. length cells.now ≡ cells_of s.shape) }
     requires same { cells.now ≡ replicate (length cells.now) cell }
     ensures written { OnOk result (Writes dir.old dir.new store.id 0 (length cells.now) cells.now) }
-    ensures noted { OnOk result (TracesThen (λ copy. Step.Fill copy 0 (length cells.now) cell) dir.old dir.new) }
+    ensures noted { OnOk result (TracesThen (IsAlloc (home_at store.id 0 0 (length cells.now))) (λ home. home ≡ home_at store.id 0 0 (length cells.now))
+        (λ copy. Step.Fill copy 0 (length cells.now) cell) dir.old dir.new) }
     ensures err { OnErr result (Serves dir.old dir.new) }
-    ensures traced { OnErr result (Traces IsHosting dir.old dir.new) }
+    ensures traced { OnErr result (Traces (IsAlloc (home_at store.id 0 0 (length cells.now))) dir.old dir.new) }
 {
     dir.is_sound();
     let whole = Range {
@@ -215,10 +219,10 @@ pub(crate) fn acquire_part<J: Journal>(
     requires part { IsPart dir.old store.id range.lo range.hi }
     requires owned { (i : ℕ) → range.lo ≤ i → i < range.hi → IsOwned dir.old store.id i }
     ensures ok { IfOk result (λ copy. Acquires dir.old dir.new copy.id) }
-    ensures host { IfOk result (λ copy. IsHostCopy dir.new store.id copy.id range.lo range.hi) }
+    ensures host { IfOk result (λ copy. IsHostCopy dir.old dir.new store.id copy.id range.lo range.hi) }
     ensures readable { IfOk result (λ copy. MayRead (copy_at dir.new copy.id) range.lo range.hi) }
     ensures err { OnErr result (Serves dir.old dir.new) }
-    ensures traced { Traces IsHosting dir.old dir.new }
+    ensures traced { Traces (IsHosting dir.old store.id range.lo range.hi) dir.old dir.new }
 {
     dir.is_sound();
     let index = index_of(dir.shape(store).cells(), range);

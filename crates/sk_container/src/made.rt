@@ -3,7 +3,7 @@ ghost use Rattle.std.specs.Prelude.{◌≡◌, ◌≢◌, ◌∷◌, [], ℕ, �
 ghost use Rattle.sk_base.specs.Arithmetic.{wrapped};
 ghost use Rattle.sk_base.specs.Shape.{cells_of};
 ghost use Rattle.sk_coherence_laws.specs.Steps.{Traces};
-ghost use Rattle.sk_container.specs.Made.{IsNew, IsNotMade, Makes, Undoes, NotesMade, IsMaking};
+ghost use Rattle.sk_container.specs.Made.{IsNew, IsNotMade, Makes, Undoes, NotesMade, IsTrying};
 
 use crate::faults::ContainerFault;
 use crate::host::fill_all;
@@ -24,7 +24,7 @@ impl Smart {
         fill: Cell,
     ) -> Result<Smart, ContainerFault>
         ensures ok { IfOk result (IsNew dir.old dir.new (n ∷ []) ty (wrapped ty fill)) }
-        ensures err { IfErr result (IsNotMade dir.old dir.new (n ∷ [])) }
+        ensures err { IfErr result (IsNotMade dir.old dir.new (n ∷ []) ty) }
     {
         make(alloc, dir, ty, &[n], fill)
     }
@@ -39,7 +39,7 @@ impl Smart {
         fill: Cell,
     ) -> Result<Smart, ContainerFault>
         ensures ok { IfOk result (IsNew dir.old dir.new (rows ∷ cols ∷ []) ty (wrapped ty fill)) }
-        ensures err { IfErr result (IsNotMade dir.old dir.new (rows ∷ cols ∷ [])) }
+        ensures err { IfErr result (IsNotMade dir.old dir.new (rows ∷ cols ∷ []) ty) }
     {
         make(alloc, dir, ty, &[rows, cols], fill)
     }
@@ -53,7 +53,7 @@ impl Smart {
         fill: Cell,
     ) -> Result<Smart, ContainerFault>
         ensures ok { IfOk result (IsNew dir.old dir.new sizes ty (wrapped ty fill)) }
-        ensures err { IfErr result (IsNotMade dir.old dir.new sizes) }
+        ensures err { IfErr result (IsNotMade dir.old dir.new sizes ty) }
     {
         make(alloc, dir, ty, &sizes, fill)
     }
@@ -67,7 +67,7 @@ impl Smart {
         fill: Cell,
     ) -> Result<Smart, ContainerFault>
         ensures ok { IfOk result (IsNew dir.old dir.new sizes ty (wrapped ty fill)) }
-        ensures err { IfErr result (IsNotMade dir.old dir.new sizes) }
+        ensures err { IfErr result (IsNotMade dir.old dir.new sizes ty) }
     {
         make(alloc, dir, ty, &sizes, fill)
     }
@@ -82,7 +82,7 @@ fn make<J: Journal>(
     fill: Cell,
 ) -> Result<Smart, ContainerFault>
     ensures ok { IfOk result (IsNew dir.old dir.new sizes.now ty (wrapped ty fill)) }
-    ensures err { IfErr result (IsNotMade dir.old dir.new sizes.now) }
+    ensures err { IfErr result (IsNotMade dir.old dir.new sizes.now ty) }
 {
     dir.is_sound();
     let Some(shape) = Shape::new(alloc, sizes) else {
@@ -104,7 +104,7 @@ fn open_filled<J: Journal>(
     ensures made { IfOk result (λ store. Makes dir.old dir.new (record { store = store.id; shape = shape.now }) ty cell) }
     ensures noted { IfOk result (λ store. NotesMade dir.old dir.new (record { store = store.id; shape = shape.now }) ty cell) }
     ensures err { OnErr result (Undoes dir.old dir.new) }
-    ensures traced { OnErr result (Traces (IsMaking dir.old.next) dir.old dir.new) }
+    ensures traced { OnErr result (Traces (IsTrying dir.old.next ty shape.now) dir.old dir.new) }
 {
     dir.is_sound();
     let cells = vec![in alloc; cell; shape.cells() as usize]?;
@@ -124,7 +124,7 @@ fn open_with<J: Journal>(
     ensures made { IfOk result (λ store. Makes dir.old dir.new (record { store = store.id; shape = shape.now }) ty cell) }
     ensures noted { IfOk result (λ store. NotesMade dir.old dir.new (record { store = store.id; shape = shape.now }) ty cell) }
     ensures err { OnErr result (Undoes dir.old dir.new) }
-    ensures traced { OnErr result (Traces (IsMaking dir.old.next) dir.old dir.new) }
+    ensures traced { OnErr result (Traces (IsTrying dir.old.next ty shape.now) dir.old dir.new) }
 {
     dir.is_sound();
     let store = dir.open(alloc, shape, ty, None)?;

@@ -11,8 +11,8 @@ ghost use Rattle.sk_coherence_laws.specs.Steps.{Traces};
 ghost use Rattle.sk_container.specs.Cells.{HasCell};
 ghost use Rattle.sk_container.specs.Changes.{Writes};
 ghost use Rattle.sk_container.specs.Faults.{IsPlaceFault};
-ghost use Rattle.sk_container.specs.Lines.{IsHosting, TracesThen};
-ghost use Rattle.sk_container.specs.Parts.{IsPart, IsHostCopy};
+ghost use Rattle.sk_container.specs.Lines.{IsPlacing, IsHosting, TracesThen};
+ghost use Rattle.sk_container.specs.Parts.{IsPart, IsHostOf, IsHostCopy};
 ghost use Rattle.sk_container.specs.Smart.{HasStore};
 
 use crate::faults::PlaceFault;
@@ -72,11 +72,13 @@ impl Smart {
         requires owned { IfSome (flat_of self.now.shape place.now) (λ i. IsOwned dir.old self.now.store i) }
         ensures cell { IfOk result (λ cell. IsSomeAnd (flat_of self.now.shape place.now) (λ i. HasCell dir.old self.now.store i cell)) }
         ensures noted { OnOk result (IfSome (flat_of self.now.shape place.now) (λ i.
-            TracesThen (λ copy. Step.Read copy i (i + 1)) dir.old dir.new)) }
+            TracesThen (IsHosting dir.old self.now.store i (i + 1)) (IsHostOf dir.old self.now.store i (i + 1))
+            (λ copy. Step.Read copy i (i + 1)) dir.old dir.new)) }
         ensures fault { IfErr result (IsPlaceFault self.now.shape place.now) }
         ensures outside { flat_of self.now.shape place.now ≡ None → dir.new ≡ dir.old }
         ensures serves { Serves dir.old dir.new }
-        ensures traced { OnErr result (Traces IsHosting dir.old dir.new) }
+        ensures traced { OnErr result (IfSome (flat_of self.now.shape place.now) (λ i.
+            Traces (IsHosting dir.old self.now.store i (i + 1)) dir.old dir.new)) }
     {
         dir.is_sound();
         let Some(index) = flat(&self.shape, place) else {
@@ -98,11 +100,13 @@ impl Smart {
         ensures written { OnOk result (IsSomeAnd (flat_of self.now.shape place.now) (λ i.
             Writes dir.old dir.new self.now.store i (i + 1) (cell ∷ []))) }
         ensures noted { OnOk result (IfSome (flat_of self.now.shape place.now) (λ i.
-            TracesThen (λ copy. Step.Poke copy i cell) dir.old dir.new)) }
+            TracesThen (IsPlacing dir.old self.now.store i (i + 1)) (IsHostOf dir.old self.now.store i (i + 1))
+            (λ copy. Step.Poke copy i cell) dir.old dir.new)) }
         ensures fault { IfErr result (IsPlaceFault self.now.shape place.now) }
         ensures outside { flat_of self.now.shape place.now ≡ None → dir.new ≡ dir.old }
         ensures err { OnErr result (Serves dir.old dir.new) }
-        ensures traced { OnErr result (Traces IsHosting dir.old dir.new) }
+        ensures traced { OnErr result (IfSome (flat_of self.now.shape place.now) (λ i.
+            Traces (IsPlacing dir.old self.now.store i (i + 1)) dir.old dir.new)) }
     {
         dir.is_sound();
         let Some(index) = flat(&self.shape, place) else {
@@ -124,10 +128,10 @@ impl Smart {
         requires part { IsPart dir.old self.now.store range.lo range.hi }
         requires owned { (i : ℕ) → range.lo ≤ i → i < range.hi → IsOwned dir.old self.now.store i }
         ensures ok { IfOk result (λ copy. Acquires dir.old dir.new copy.id) }
-        ensures host { IfOk result (λ copy. IsHostCopy dir.new self.now.store copy.id range.lo range.hi) }
+        ensures host { IfOk result (λ copy. IsHostCopy dir.old dir.new self.now.store copy.id range.lo range.hi) }
         ensures readable { IfOk result (λ copy. MayRead (copy_at dir.new copy.id) range.lo range.hi) }
         ensures err { OnErr result (Serves dir.old dir.new) }
-        ensures traced { Traces IsHosting dir.old dir.new }
+        ensures traced { Traces (IsHosting dir.old self.now.store range.lo range.hi) dir.old dir.new }
     {
         acquire_part(alloc, dir, self.store, range)
     }

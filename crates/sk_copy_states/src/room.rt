@@ -1,5 +1,5 @@
 //! What takes room in a space, and what may give way.
-ghost use Rattle.std.specs.Prelude.{◌≡◌, ℕ, ◌<◌, length, slice_index, true, IfOk, IfSome, IsSomeAnd};
+ghost use Rattle.std.specs.Prelude.{◌≡◌, ℕ, ◌<◌, ◌≤◌, ◌^◌, length, slice_index, true, IfOk, IfSome, IfNone, IsSomeAnd};
 ghost use Rattle.sk_copy_states.specs.Copies.{held_in};
 ghost use Rattle.sk_copy_states.specs.Loose.{is_loose, loose_in, kept_by, pinned_in};
 
@@ -41,9 +41,10 @@ fn cells_kept(held: &Held, space: u32) -> u32
     }
 }
 
-/// How many cells of a space its pinned copies have together; none where they cannot be counted.
+/// How many cells of a space its pinned copies have together, if so many can be counted.
 pub fn pinned(copies: &BTreeMap<u64, Held>, space: u32) -> Option<u32>
-    ensures { IfSome result (λ n. n ≡ pinned_in space copies.now.entries) }
+    ensures some { IfSome result (λ n. n ≡ pinned_in space copies.now.entries) }
+    ensures none { IfNone result (2 ^ 32 ≤ pinned_in space copies.now.entries) }
 {
     let mut total: u32 = 0;
     'copies: for (_, held) in copies {

@@ -4,16 +4,17 @@ ghost use Rattle.sk_copy_states.specs.Copies.{home_in, store_in, state_in, pins_
 ghost use Rattle.sk_coherence_laws.specs.Directory.{copy_at, store_at};
 ghost use Rattle.sk_copy_states.specs.Stores.{IsBlockOf};
 ghost use Rattle.sk_copy_states.specs.Sources.{MayRead};
+ghost use Rattle.sk_coherence_laws.specs.HostBlocks.{home_at};
 ghost use Rattle.sk_coherence_laws.specs.Owned.{IsOwned};
 ghost use Rattle.sk_coherence_laws.specs.Serves.{Serves};
-ghost use Rattle.sk_coherence_laws.specs.Steps.{Traces, IsAlloc, IsServing, IsDue};
+ghost use Rattle.sk_coherence_laws.specs.Steps.{Traces, IsAlloc, IsServing};
 ghost use Rattle.sk_coherence_laws.specs.Moves.{Idles};
 ghost use Rattle.sk_coherence_laws.specs.Owes.{OwesWrite, AcquiresWrite};
 ghost use Rattle.sk_coherence_laws.specs.Acquires.{PinsOne, Acquires, IsRoomFault};
 ghost use Rattle.sk_coherence_laws.specs.Traced.{IsLike};
 ghost use Rattle.sk_spaces.specs.Machine.{Machine};
-ghost use Rattle.sk_coherence.specs.Evicts.{KeepsPinned, KeepsPinnedBut};
-ghost use Rattle.sk_coherence.specs.Room.{IsShort, IsAcquireFault, IsEarly, IsYielding};
+ghost use Rattle.sk_coherence.specs.Evicts.{KeepsPinned, KeepsPinnedBut, KeepsLeft, KeepsLeftBut};
+ghost use Rattle.sk_coherence.specs.Room.{IsShort, IsAcquireFault, IsEarly, IsYielding, IsDue, MakesOnly};
 
 use crate::directory::Directory;
 use crate::faults::AcquireFault;
@@ -54,13 +55,15 @@ impl<J: Journal> Directory<J> {
         requires owned { (i : ℕ) → need.lo ≤ i → i < need.hi → IsOwned self.old place.store i }
         ensures ok { IfOk result (λ copy. Acquires self.old self.new copy.id) }
         ensures home { IfOk result (λ copy. home_in (copy_at self.new copy.id)
-            ≡ Some (record { store = place.store; space = place.space; lo = place.block.lo; hi = place.block.hi })) }
+            ≡ Some (home_at place.store place.space place.block.lo place.block.hi)) }
         ensures readable { IfOk result (λ copy. MayRead (copy_at self.new copy.id) need.lo need.hi) }
         ensures pinned { IfOk result (λ copy. 0 < pins_in (copy_at self.new copy.id)) }
-        ensures others { KeepsPinnedBut self.old self.new (record { store = place.store; space = place.space; lo = place.block.lo; hi = place.block.hi }) }
+        ensures others { KeepsPinnedBut self.old self.new (home_at place.store place.space place.block.lo place.block.hi) }
         ensures fault { IfErr result (IsRoomFault self.old place.store place.space place.block.lo place.block.hi) }
         ensures err { OnErr result (Serves self.old self.new) }
-        ensures traced { Traces (IsServing place.store place.space place.block.lo place.block.hi) self.old self.new }
+        ensures kept { OnOk result (KeepsLeftBut self.old self.new (home_at place.store place.space place.block.lo place.block.hi)) }
+        ensures made { MakesOnly self.old self.new (home_at place.store place.space place.block.lo place.block.hi) }
+        ensures traced { Traces (IsServing (home_at place.store place.space place.block.lo place.block.hi) need.lo need.hi) self.old self.new }
     {
         self.is_sound();
         let copy = self.place(alloc, place)?;
@@ -72,7 +75,8 @@ impl<J: Journal> Directory<J> {
     /// The copy with exactly this block in a space, pinned once more, which may be read where it is needed. It is made where there
     /// is none; on a rank other copies that are not pinned go for it, as the chooser picks, while there is too little room. Stale
     /// runs are filled from the copy of least number in the same space that may be read there, or else from the owner. This costs
-    /// a look at each copy of the store for each run, and the moves of the cells.
+    /// a look at each copy of the store for each part that comes from one copy, the moves of the cells, and, where copies give way,
+    /// a walk over all copies for each of them.
     pub fn acquire_read<C: Chooser>(
         &mut self,
         alloc: Global,
@@ -90,15 +94,17 @@ impl<J: Journal> Directory<J> {
         requires owned { (i : ℕ) → need.lo ≤ i → i < need.hi → IsOwned self.old store.id i }
         ensures ok { IfOk result (λ copy. Acquires self.old self.new copy.id) }
         ensures home { IfOk result (λ copy. home_in (copy_at self.new copy.id)
-            ≡ Some (record { store = store.id; space = space; lo = block.lo; hi = block.hi })) }
+            ≡ Some (home_at store.id space block.lo block.hi)) }
         ensures readable { IfOk result (λ copy. MayRead (copy_at self.new copy.id) need.lo need.hi) }
         ensures pinned { IfOk result (λ copy. 0 < pins_in (copy_at self.new copy.id)) }
-        ensures others { KeepsPinnedBut self.old self.new (record { store = store.id; space = space; lo = block.lo; hi = block.hi }) }
+        ensures others { KeepsPinnedBut self.old self.new (home_at store.id space block.lo block.hi) }
         ensures fault { IfErr result (IsAcquireFault self.old store.id space block.lo block.hi) }
         ensures early { IfErr result (IsEarly self.old self.new) }
         ensures short { OnOk result (IsShort self.old store.id space block.lo block.hi → ⊥) }
         ensures err { OnErr result (Serves self.old self.new) }
-        ensures traced { Traces (IsDue self.old.spaces.memories.capacity space (block.hi - block.lo)) self.old self.new }
+        ensures kept { OnOk result (KeepsLeftBut self.old self.new (home_at store.id space block.lo block.hi)) }
+        ensures made { MakesOnly self.old self.new (home_at store.id space block.lo block.hi) }
+        ensures traced { Traces (IsDue self.old (home_at store.id space block.lo block.hi) need.lo need.hi) self.old self.new }
     {
         self.is_sound();
         let place = Place {
@@ -148,11 +154,13 @@ impl<J: Journal> Directory<J> {
         requires ranks { place.space ≤ self.old.spaces.memories.ranks }
         ensures ok { IfOk result (λ copy. AcquiresWrite self.old self.new place.store copy.id) }
         ensures home { IfOk result (λ copy. home_in (copy_at self.new copy.id)
-            ≡ Some (record { store = place.store; space = place.space; lo = place.block.lo; hi = place.block.hi })) }
+            ≡ Some (home_at place.store place.space place.block.lo place.block.hi)) }
         ensures others { KeepsPinned self.old self.new }
         ensures fault { IfErr result (IsRoomFault self.old place.store place.space place.block.lo place.block.hi) }
         ensures err { OnErr result (Serves self.old self.new) }
-        ensures traced { Traces (IsAlloc place.store place.space place.block.lo place.block.hi) self.old self.new }
+        ensures kept { OnOk result (KeepsLeft self.old self.new place.space) }
+        ensures made { MakesOnly self.old self.new (home_at place.store place.space place.block.lo place.block.hi) }
+        ensures traced { Traces (IsAlloc (home_at place.store place.space place.block.lo place.block.hi)) self.old self.new }
     {
         self.is_sound();
         let copy = self.place(alloc, place)?;
@@ -178,13 +186,15 @@ impl<J: Journal> Directory<J> {
         requires ranks { space ≤ self.old.spaces.memories.ranks }
         ensures ok { IfOk result (λ copy. AcquiresWrite self.old self.new store.id copy.id) }
         ensures home { IfOk result (λ copy. home_in (copy_at self.new copy.id)
-            ≡ Some (record { store = store.id; space = space; lo = block.lo; hi = block.hi })) }
+            ≡ Some (home_at store.id space block.lo block.hi)) }
         ensures others { KeepsPinned self.old self.new }
         ensures fault { IfErr result (IsAcquireFault self.old store.id space block.lo block.hi) }
         ensures early { IfErr result (IsEarly self.old self.new) }
         ensures short { OnOk result (IsShort self.old store.id space block.lo block.hi → ⊥) }
         ensures err { OnErr result (Serves self.old self.new) }
-        ensures traced { Traces (IsYielding self.old.spaces.memories.capacity space (block.hi - block.lo)) self.old self.new }
+        ensures kept { OnOk result (KeepsLeft self.old self.new space) }
+        ensures made { MakesOnly self.old self.new (home_at store.id space block.lo block.hi) }
+        ensures traced { Traces (IsYielding self.old (home_at store.id space block.lo block.hi)) self.old self.new }
     {
         self.is_sound();
         let place = Place {

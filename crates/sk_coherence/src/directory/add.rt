@@ -8,7 +8,7 @@ ghost use Rattle.sk_coherence_laws.specs.Moves.{Idles};
 ghost use Rattle.sk_coherence_laws.specs.Traced.{TracesStep};
 ghost use Rattle.sk_coherence_laws.specs.Adds.{AddsSome, Places};
 ghost use Rattle.sk_copy_states.specs.Copies.{home_in};
-ghost use Rattle.sk_coherence_laws.specs.HostBlocks.{HasBlock};
+ghost use Rattle.sk_coherence_laws.specs.HostBlocks.{HasBlock, home_at};
 ghost use Rattle.sk_coherence_laws.specs.Serves.{Serves, GrowsAt};
 ghost use Rattle.sk_coherence_laws.specs.Steps.{Traces, IsAlloc};
 
@@ -60,13 +60,13 @@ impl<J: Journal> Directory<J> {
         requires block { IfSome (store_at self.old place.store) (IsBlockOf place.block.lo place.block.hi) }
         requires ranks { place.space ≤ self.old.spaces.memories.ranks }
         ensures home { IfOk result (λ copy. home_in (copy_at self.new copy.id)
-            ≡ Some (record { store = place.store; space = place.space; lo = place.block.lo; hi = place.block.hi })) }
+            ≡ Some (home_at place.store place.space place.block.lo place.block.hi)) }
         ensures serves { Serves self.old self.new }
         ensures stays { (q : ℕ) → IsSome (copy_at self.old q) → GrowsAt self.old self.new q }
-        ensures traced { Traces (IsAlloc place.store place.space place.block.lo place.block.hi) self.old self.new }
+        ensures traced { Traces (IsAlloc (home_at place.store place.space place.block.lo place.block.hi)) self.old self.new }
         ensures fault { IfErr result (λ fault. IsSpaceFault self.old.spaces place.space
             place.block.lo place.block.hi fault) }
-        ensures places { Places self.old self.new place.space }
+        ensures places { Places self.old self.new (home_at place.store place.space place.block.lo place.block.hi) }
         ensures absent { IsErr result → HasBlock self.old place.store place.space place.block.lo place.block.hi → ⊥ }
     {
         self.is_sound();

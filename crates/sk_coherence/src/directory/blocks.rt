@@ -3,7 +3,7 @@ ghost use Rattle.std.specs.Prelude.{◌≡◌, ℕ, ◌+◌, ◌*◌, ◌/◌, �
 ghost use Rattle.sk_base.specs.Shape.{cells_of};
 ghost use Rattle.sk_copy_states.specs.Copies.{home_in};
 ghost use Rattle.sk_coherence_laws.specs.Directory.{copy_at, store_at};
-ghost use Rattle.sk_coherence_laws.specs.HostBlocks.{HasBlock, IsHostBlock};
+ghost use Rattle.sk_coherence_laws.specs.HostBlocks.{HasBlock, IsHostBlock, home_at};
 
 use crate::directory::Directory;
 use sk_base::Range;
@@ -16,7 +16,7 @@ impl<J: Journal> Directory<J> {
     pub(crate) fn find(&self, store: StoreId, space: u32, block: Range) -> Option<CopyId>
         requires there { IsSome (store_at self.now store.id) }
         ensures found { IfSome result (λ copy. home_in (copy_at self.now copy.id)
-            ≡ Some (record { store = store.id; space = space; lo = block.lo; hi = block.hi })) }
+            ≡ Some (home_at store.id space block.lo block.hi)) }
         ensures none { IfNone result (HasBlock self.now store.id space block.lo block.hi → ⊥) }
     {
         let listed = self.stores.get(&store.id)?;

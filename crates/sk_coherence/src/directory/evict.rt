@@ -1,5 +1,5 @@
 //! Copies that go.
-ghost use Rattle.std.specs.Prelude.{◌≡◌, ◌≢◌, ℕ, ◌+◌, ◌<◌, ◌≤◌, None, Some, true, false, IfSome, IsSome, IfOk, OnOk};
+ghost use Rattle.std.specs.Prelude.{◌≡◌, ◌≢◌, ℕ, ◌+◌, ◌<◌, ◌≤◌, None, Some, true, false, IfSome, IsSome, IfOk, OnOk, OnErr};
 ghost use Rattle.sk_ranges.specs.declared.state.State.TheVariants.{Owner};
 ghost use Rattle.sk_spaces.specs.Spaces.{Changes, block_at};
 ghost use Rattle.sk_copy_states.specs.Copies.{ReachesIn, home_in, store_in, state_in, pins_in};
@@ -7,11 +7,12 @@ ghost use Rattle.sk_copy_states.specs.Stores.{IsBlockOf};
 ghost use Rattle.sk_coherence_laws.specs.Directory.{copy_at, store_at};
 ghost use Rattle.sk_coherence_laws.specs.Adds.{Places};
 ghost use Rattle.sk_coherence_laws.specs.Frees.{FreesSome};
+ghost use Rattle.sk_coherence_laws.specs.HostBlocks.{home_at};
 ghost use Rattle.sk_coherence_laws.specs.Moves.{CanMove, OwnsAt};
 ghost use Rattle.sk_coherence_laws.specs.Serves.{Serves, GrowsAt};
 ghost use Rattle.sk_coherence_laws.specs.Steps.{Traces, IsAlloc};
 ghost use Rattle.sk_coherence_laws.specs.Traced.{TracesStep};
-ghost use Rattle.sk_coherence.specs.Evicts.{OwnsNone, IsFar, IsOnHost, KeepsFar, Retreats, Evicts, TracesEviction};
+ghost use Rattle.sk_coherence.specs.Evicts.{OwnsNone, IsFar, IsBackHome, KeepsFar, MakesBack, Retreats, Evicts, TracesEviction};
 
 use crate::directory::Directory;
 use sk_base::Range;
@@ -97,11 +98,11 @@ impl<J: Journal> Directory<J> {
         requires there { IsSome (store_at self.old store.id) }
         requires block { IfSome (store_at self.old store.id) (IsBlockOf block.lo block.hi) }
         ensures home { IfOk result (λ copy. home_in (copy_at self.new copy.id)
-            ≡ Some (record { store = store.id; space = 0; lo = block.lo; hi = block.hi })) }
+            ≡ Some (home_at store.id 0 block.lo block.hi)) }
         ensures serves { Serves self.old self.new }
         ensures stays { (q : ℕ) → IsSome (copy_at self.old q) → GrowsAt self.old self.new q }
-        ensures places { Places self.old self.new 0 }
-        ensures traced { Traces (IsAlloc store.id 0 block.lo block.hi) self.old self.new }
+        ensures places { Places self.old self.new (home_at store.id 0 block.lo block.hi) }
+        ensures traced { Traces (IsAlloc (home_at store.id 0 block.lo block.hi)) self.old self.new }
     {
         let place = Place {
             store: store.id,
@@ -129,7 +130,7 @@ impl<J: Journal> Directory<J> {
         ensures from { IfOk result (λ way. way.from.id ≡ copy.id) }
         ensures begins { IfOk result (λ way. way.range.lo ≡ run.lo) }
         ensures ends { IfOk result (λ way. (run.lo < way.range.hi) × (way.range.hi ≤ run.hi)) }
-        ensures host { IfOk result (λ way. IsOnHost (copy_at self.new way.to.id)) }
+        ensures back { IfOk result (λ way. IfSome (home_in (copy_at self.new way.to.id)) (IsBackHome self.new copy.id)) }
     {
         self.is_sound();
         let store = self.store_of(copy);
@@ -207,6 +208,8 @@ impl<J: Journal> Directory<J> {
         ensures ok { OnOk result (Evicts self.old self.new copy.id) }
         ensures serves { Serves self.old self.new }
         ensures others { KeepsFar self.old self.new copy.id }
+        ensures made { MakesBack self.old self.new copy.id }
+        ensures stands { OnErr result (IsSome (copy_at self.new copy.id)) }
         ensures traced { TracesEviction self.old self.new copy.id }
     {
         self.is_sound();

@@ -6,9 +6,8 @@ ghost use Rattle.sk_coherence_laws.specs.Moves.{CanMove, IsStaleAt, IsSourceAt};
 ghost use Rattle.sk_copy_states.specs.Sources.{MayRead};
 ghost use Rattle.sk_coherence_laws.specs.Owned.{HasOwnerAt};
 ghost use Rattle.sk_coherence_laws.specs.Serves.{Serves, GrowsAt};
-ghost use Rattle.sk_coherence_laws.specs.Steps.{Traces, IsFill};
-ghost use Rattle.sk_coherence.specs.Evicts.{IsOnHost};
-ghost use Rattle.sk_coherence.specs.Later.{IsClose, IsFillNear};
+ghost use Rattle.sk_coherence_laws.specs.Steps.{AreFilled};
+ghost use Rattle.sk_coherence.specs.Later.{LieTogether, AreFilledBeside};
 
 use crate::directory::Directory;
 use sk_base::Range;
@@ -68,14 +67,16 @@ impl<J: Journal> Directory<J> {
         requires can { CanMove self.old transfer.from.id transfer.to.id transfer.range.lo transfer.range.hi }
         requires missing { IsStaleAt self.old transfer.to.id transfer.range.lo transfer.range.hi }
         requires source { IsSourceAt self.old transfer.from.id transfer.to.id transfer.range.lo transfer.range.hi }
+        requires some { transfer.range.lo < transfer.range.hi }
         ensures serves { Serves self.old self.new }
-        ensures traced { Traces IsFill self.old self.new }
+        ensures traced { AreFilled self.old self.new transfer.to.id transfer.range.lo transfer.range.hi }
         ensures grows { (q : ℕ) → GrowsAt self.old self.new q }
         ensures others { (q : ℕ) → q ≢ transfer.to.id → KeepsStates (copy_at self.old q) (copy_at self.new q) }
         ensures before { (i : ℕ) → i < transfer.range.lo →
             state_in (copy_at self.new transfer.to.id) i ≡ state_in (copy_at self.old transfer.to.id) i }
         ensures ok { OnOk result (MayRead (copy_at self.new transfer.to.id) transfer.range.lo transfer.range.hi) }
-        ensures near { IsClose self.old transfer.from.id transfer.to.id → Traces IsFillNear self.old self.new }
+        ensures beside { LieTogether (copy_at self.old transfer.from.id) (copy_at self.old transfer.to.id) →
+            AreFilledBeside self.old self.new transfer.to.id transfer.range.lo transfer.range.hi }
     {
         self.is_sound();
         self.reserve(alloc, 1)?;
@@ -90,11 +91,10 @@ impl<J: Journal> Directory<J> {
         requires reaches { ReachesIn (copy_at self.old copy.id) need.lo need.hi }
         requires owned { (i : ℕ) → need.lo ≤ i → i < need.hi → HasOwnerAt self.old copy.id i }
         ensures serves { Serves self.old self.new }
-        ensures traced { Traces IsFill self.old self.new }
+        ensures traced { AreFilled self.old self.new copy.id need.lo need.hi }
         ensures stays { GrowsAt self.old self.new copy.id }
         ensures grows { (q : ℕ) → GrowsAt self.old self.new q }
         ensures others { (q : ℕ) → q ≢ copy.id → KeepsStates (copy_at self.old q) (copy_at self.new q) }
-        ensures near { IsOnHost (copy_at self.old copy.id) → Traces IsFillNear self.old self.new }
         ensures all { IfOk result (λ rest. IfNone rest (MayRead (copy_at self.new copy.id) need.lo need.hi)) }
         ensures part { IfOk result (λ rest. IfSome rest (λ lo.
             (need.lo < lo) × (lo ≤ need.hi) × MayRead (copy_at self.new copy.id) need.lo lo)) }
@@ -121,11 +121,10 @@ impl<J: Journal> Directory<J> {
         requires reaches { ReachesIn (copy_at self.old copy.id) need.lo need.hi }
         requires owned { (i : ℕ) → need.lo ≤ i → i < need.hi → HasOwnerAt self.old copy.id i }
         ensures serves { Serves self.old self.new }
-        ensures traced { Traces IsFill self.old self.new }
+        ensures traced { AreFilled self.old self.new copy.id need.lo need.hi }
         ensures stays { GrowsAt self.old self.new copy.id }
         ensures grows { (q : ℕ) → GrowsAt self.old self.new q }
         ensures others { (q : ℕ) → q ≢ copy.id → KeepsStates (copy_at self.old q) (copy_at self.new q) }
-        ensures near { IsOnHost (copy_at self.old copy.id) → Traces IsFillNear self.old self.new }
         ensures ok { OnOk result (MayRead (copy_at self.new copy.id) need.lo need.hi) }
     {
         self.is_sound();

@@ -3,14 +3,15 @@ ghost use Rattle.std.specs.Prelude.{◌≡◌, ◌≢◌, ℕ, ◌+◌, ◌-◌,
 ghost use Rattle.sk_copy_states.specs.Copies.{KeepsStates, ReachesIn, home_in, state_in, pins_in};
 ghost use Rattle.sk_copy_states.specs.Stores.{IsBlockOf};
 ghost use Rattle.sk_coherence_laws.specs.Directory.{copy_at, store_at};
+ghost use Rattle.sk_coherence_laws.specs.HostBlocks.{home_at};
 ghost use Rattle.sk_coherence_laws.specs.Moves.{CanMove, IsStaleAt, IsSourceAt};
 ghost use Rattle.sk_coherence_laws.specs.Owned.{HasOwnerAt, IsOwned};
 ghost use Rattle.sk_coherence_laws.specs.Serves.{Serves, GrowsAt};
 ghost use Rattle.sk_coherence_laws.specs.Acquires.{Acquires};
-ghost use Rattle.sk_coherence_laws.specs.Steps.{Traces, IsDue};
-ghost use Rattle.sk_coherence.specs.Evicts.{IsFar, KeepsFar, KeepsPinnedBut, MakesOnHost};
-ghost use Rattle.sk_coherence.specs.Room.{IsShort, IsAcquireFault, IsEarly};
-ghost use Rattle.sk_coherence.specs.Later.{IsAlone, IsToSend, AreLeft, IsLooked, IsClose, IsLater, IsDueLater};
+ghost use Rattle.sk_coherence_laws.specs.Steps.{Traces};
+ghost use Rattle.sk_coherence.specs.Evicts.{IsFar, KeepsFar, KeepsPinnedBut, KeepsLeftBut, MakesHostBlocks};
+ghost use Rattle.sk_coherence.specs.Room.{IsShort, IsAcquireFault, IsEarly, IsDue, MakesOnly};
+ghost use Rattle.sk_coherence.specs.Later.{LieTogether, IsAlone, IsToSend, AreLeft, IsLooked, IsServingLater, IsDueLater, AreServedLater, AreHosted};
 
 use crate::directory::Directory;
 use crate::faults::AcquireFault;
@@ -51,7 +52,7 @@ impl<J: Journal> Directory<J> {
         ensures below { result.hi ≤ run.hi }
         ensures can { IfSome result.id (λ from. CanMove self.now from copy.id run.lo result.hi) }
         ensures source { IfSome result.id (λ from. IsSourceAt self.now from copy.id run.lo result.hi) }
-        ensures near { IfSome result.id (λ from. IsClose self.now from copy.id) }
+        ensures near { IfSome result.id (λ from. LieTogether (copy_at self.now from) (copy_at self.now copy.id)) }
         ensures none { IfNone result.id (IsAlone self.now copy.id run.lo result.hi) }
     {
         let space = self.copies.get(&copy.id).unwrap().space;
@@ -76,9 +77,9 @@ impl<J: Journal> Directory<J> {
         requires alone { IsAlone self.old copy.id run.lo run.hi }
         requires owned { (i : ℕ) → run.lo ≤ i → i < run.hi → HasOwnerAt self.old copy.id i }
         ensures serves { Serves self.old self.new }
-        ensures traced { Traces IsLater self.old self.new }
+        ensures traced { AreHosted self.old self.new copy.id run.lo run.hi }
         ensures others { KeepsFar self.old self.new copy.id }
-        ensures made { MakesOnHost self.old self.new }
+        ensures made { MakesHostBlocks self.old self.new }
         ensures grows { (q : ℕ) → IsSome (copy_at self.old q) → GrowsAt self.old self.new q }
         ensures kept { KeepsStates (copy_at self.old copy.id) (copy_at self.new copy.id) }
         ensures sends { IfOk result (λ transfer. IsToSend self.new copy.id transfer) }
@@ -110,9 +111,9 @@ impl<J: Journal> Directory<J> {
         requires reaches { ReachesIn (copy_at self.old copy.id) rest.lo rest.hi }
         requires owned { (i : ℕ) → rest.lo ≤ i → i < rest.hi → HasOwnerAt self.old copy.id i }
         ensures serves { Serves self.old self.new }
-        ensures traced { Traces IsLater self.old self.new }
+        ensures traced { AreServedLater self.old self.new copy.id rest.lo rest.hi }
         ensures others { KeepsFar self.old self.new copy.id }
-        ensures made { MakesOnHost self.old self.new }
+        ensures made { MakesHostBlocks self.old self.new }
         ensures grows { (q : ℕ) → IsSome (copy_at self.old q) → GrowsAt self.old self.new q }
         ensures before { (i : ℕ) → i < rest.lo → state_in (copy_at self.new copy.id) i ≡ state_in (copy_at self.old copy.id) i }
         ensures looked { IfOk result (λ looked. IsLooked self.new copy.id rest.lo rest.hi looked.hi looked.transfer) }
@@ -159,7 +160,8 @@ impl<J: Journal> Directory<J> {
         requires reaches { ReachesIn (copy_at self.old copy.id) need.lo need.hi }
         requires owned { (i : ℕ) → need.lo ≤ i → i < need.hi → HasOwnerAt self.old copy.id i }
         ensures serves { Serves self.old self.new }
-        ensures traced { Traces IsLater self.old self.new }
+        ensures made { MakesHostBlocks self.old self.new }
+        ensures traced { AreServedLater self.old self.new copy.id need.lo need.hi }
         ensures others { KeepsFar self.old self.new copy.id }
         ensures grows { (q : ℕ) → IsSome (copy_at self.old q) → GrowsAt self.old self.new q }
         ensures left { IfOk result (λ transfers. AreLeft self.new copy.id need.lo need.hi transfers.items) }
@@ -174,6 +176,7 @@ impl<J: Journal> Directory<J> {
         }
         Ok(transfers)
     }
+
     /// The copy with exactly this block on a rank, pinned once more, and the messages that are left to do for what is needed of it.
     /// It is made where there is none; no other copy gives way for it.
     fn acquire_later_here(
@@ -191,12 +194,14 @@ impl<J: Journal> Directory<J> {
         requires owned { (i : ℕ) → need.lo ≤ i → i < need.hi → IsOwned self.old place.store i }
         ensures ok { IfOk result (λ later. Acquires self.old self.new later.0.id) }
         ensures home { IfOk result (λ later. home_in (copy_at self.new later.0.id)
-            ≡ Some (record { store = place.store; space = place.space; lo = place.block.lo; hi = place.block.hi })) }
+            ≡ Some (home_at place.store place.space place.block.lo place.block.hi)) }
         ensures left { IfOk result (λ later. AreLeft self.new later.0.id need.lo need.hi later.1.items) }
         ensures pinned { IfOk result (λ later. 0 < pins_in (copy_at self.new later.0.id)) }
-        ensures others { KeepsPinnedBut self.old self.new (record { store = place.store; space = place.space; lo = place.block.lo; hi = place.block.hi }) }
+        ensures others { KeepsPinnedBut self.old self.new (home_at place.store place.space place.block.lo place.block.hi) }
         ensures err { OnErr result (Serves self.old self.new) }
-        ensures traced { Traces IsLater self.old self.new }
+        ensures kept { OnOk result (KeepsLeftBut self.old self.new (home_at place.store place.space place.block.lo place.block.hi)) }
+        ensures made { MakesOnly self.old self.new (home_at place.store place.space place.block.lo place.block.hi) }
+        ensures traced { Traces (IsServingLater self.old (home_at place.store place.space place.block.lo place.block.hi) need.lo need.hi) self.old self.new }
     {
         self.is_sound();
         let copy = match self.place(alloc, place) {
@@ -211,8 +216,8 @@ impl<J: Journal> Directory<J> {
     /// The copy with exactly this block in a space, pinned once more, and the messages from the host that are left to do: they take
     /// exactly those of the needed indices that are still stale in it, each once. It is made where there is none; on a rank other
     /// copies that are not pinned go for it, as the chooser picks, while there is too little room. Stale runs are filled from the
-    /// copy of least number in the same space that may be read there, or else are left to messages, and on the host filled from
-    /// the owner. This costs a look at each copy of the store for each run, and the moves of the cells.
+    /// copy of least number in the same space that may be read there, or else are made readable in the host's block and left to
+    /// messages; on the host it is `acquire_read`, and no message is left. It costs what `acquire_read` costs.
     pub fn acquire_later<C: Chooser>(
         &mut self,
         alloc: Global,
@@ -230,16 +235,18 @@ impl<J: Journal> Directory<J> {
         requires owned { (i : ℕ) → need.lo ≤ i → i < need.hi → IsOwned self.old store.id i }
         ensures ok { IfOk result (λ later. Acquires self.old self.new later.0.id) }
         ensures home { IfOk result (λ later. home_in (copy_at self.new later.0.id)
-            ≡ Some (record { store = store.id; space = space; lo = block.lo; hi = block.hi })) }
+            ≡ Some (home_at store.id space block.lo block.hi)) }
         ensures left { IfOk result (λ later. AreLeft self.new later.0.id need.lo need.hi later.1.items) }
         ensures pinned { IfOk result (λ later. 0 < pins_in (copy_at self.new later.0.id)) }
-        ensures others { KeepsPinnedBut self.old self.new (record { store = store.id; space = space; lo = block.lo; hi = block.hi }) }
+        ensures others { KeepsPinnedBut self.old self.new (home_at store.id space block.lo block.hi) }
         ensures fault { IfErr result (IsAcquireFault self.old store.id space block.lo block.hi) }
         ensures early { IfErr result (IsEarly self.old self.new) }
         ensures short { OnOk result (IsShort self.old store.id space block.lo block.hi → ⊥) }
         ensures err { OnErr result (Serves self.old self.new) }
-        ensures traced { Traces (IsDue self.old.spaces.memories.capacity space (block.hi - block.lo)) self.old self.new }
-        ensures near { 0 < space → Traces (IsDueLater self.old.spaces.memories.capacity space (block.hi - block.lo)) self.old self.new }
+        ensures kept { OnOk result (KeepsLeftBut self.old self.new (home_at store.id space block.lo block.hi)) }
+        ensures made { MakesOnly self.old self.new (home_at store.id space block.lo block.hi) }
+        ensures host { space ≡ 0 → Traces (IsDue self.old (home_at store.id space block.lo block.hi) need.lo need.hi) self.old self.new }
+        ensures far { 0 < space → Traces (IsDueLater self.old (home_at store.id space block.lo block.hi) need.lo need.hi) self.old self.new }
     {
         if space == 0 {
             let copy = self.acquire_read(alloc, store, space, block, need, chooser)?;

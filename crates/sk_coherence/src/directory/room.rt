@@ -1,13 +1,14 @@
 //! Room for new blocks.
-ghost use Rattle.std.specs.Prelude.{◌≡◌, ℕ, ◌+◌, ◌<◌, ◌≤◌, IfOk, IfErr, IfSome, OnOk, IsTrue, ◌↔◌, IsSome, ◌-◌, length, slice_index};
+ghost use Rattle.std.specs.Prelude.{◌≡◌, ℕ, ◌+◌, ◌<◌, ◌≤◌, IfOk, IfErr, IfSome, OnOk, IsTrue, ◌↔◌, IsSome, ◌-◌, ◌⊎◌, length, slice_index};
 ghost use Rattle.sk_spaces.specs.Spaces.{used_at};
 ghost use Rattle.sk_copy_states.specs.Copies.{pins_in};
 ghost use Rattle.sk_copy_states.specs.Loose.{loose_in, pinned_in};
 ghost use Rattle.sk_coherence_laws.specs.Directory.{copy_at, store_at};
+ghost use Rattle.sk_coherence_laws.specs.HostBlocks.{HasBlock, home_at};
 ghost use Rattle.sk_coherence_laws.specs.Serves.{Serves};
 ghost use Rattle.sk_coherence_laws.specs.Steps.{Traces};
-ghost use Rattle.sk_coherence.specs.Evicts.{IsIn, KeepsPinned};
-ghost use Rattle.sk_coherence.specs.Room.{IsFull, IsShort, IsAcquireFault, IsEarly, IsGivingWay, IsYielding};
+ghost use Rattle.sk_coherence.specs.Evicts.{IsIn, KeepsPinned, KeepsLeft, MakesHostBlocks};
+ghost use Rattle.sk_coherence.specs.Room.{IsFull, IsShort, IsAcquireFault, IsEarly, IsGivingWay, IsMakingWay, MakesOnly};
 
 use crate::directory::Directory;
 use crate::faults::AcquireFault;
@@ -28,18 +29,22 @@ impl<J: Journal> Directory<J> {
         self.spaces.capacity() - self.spaces.used(space) < len
     }
 
-    /// How many cells of a space its pinned copies have together; none where they cannot be counted.
-    fn pinned(&self, space: u32) -> Option<u32>
-        ensures { IfSome result (λ n. n ≡ pinned_in space self.now.copies) }
-    {
-        pinned(&self.copies, space)
-    }
-
     /// The pinned cells of a space are among those that are taken there. It changes nothing.
     fn pinned_are_taken(&self, space: u32)
         ensures { pinned_in space self.now.copies ≤ used_at self.now.spaces space }
     {
         let _copies = self.copies.len();
+    }
+
+    /// How many cells of a rank's space its pinned copies have together: no more than are taken there, so they can be counted.
+    fn pinned(&self, space: u32) -> u32
+        requires ranks { space ≤ self.now.spaces.memories.ranks }
+        requires far { 0 < space }
+        ensures { result ≡ pinned_in space self.now.copies }
+    {
+        self.pinned_are_taken(space);
+        let used = self.spaces.used(space);
+        pinned(&self.copies, space).unwrap_or(used)
     }
 
     /// The copy of a space that the chooser picks among those that are not pinned, counted in order of number.
@@ -71,8 +76,10 @@ impl<J: Journal> Directory<J> {
         requires far { 0 < space }
         ensures serves { Serves self.old self.new }
         ensures pinned { KeepsPinned self.old self.new }
+        ensures kept { OnOk result (KeepsLeft self.old self.new space) }
+        ensures made { MakesHostBlocks self.old self.new }
         ensures less { OnOk result (used_at self.new.spaces space < used_at self.old.spaces space) }
-        ensures traced { Traces (IsGivingWay space (used_at self.old.spaces space)) self.old self.new }
+        ensures traced { Traces (IsGivingWay self.old space (used_at self.old.spaces space)) self.old self.new }
     {
         self.is_sound();
         let copy = self.pick(alloc, space, chooser)?;
@@ -80,25 +87,26 @@ impl<J: Journal> Directory<J> {
         Ok(())
     }
 
-    /// Room for so many cells more in a rank's space: one copy there that is not pinned goes after another, while there is too
-    /// little.
+    /// Room for a block on a rank that no copy has: one copy there that is not pinned goes after another, while there is too little.
     fn make_room<C: Chooser>(
         &mut self,
         alloc: Global,
-        space: u32,
-        len: u32,
+        place: Place,
         chooser: &mut C,
     ) -> Result<(), Memory>
-        requires far { 0 < space }
-        requires ranks { space ≤ self.old.spaces.memories.ranks }
+        requires far { 0 < place.space }
+        requires ranks { place.space ≤ self.old.spaces.memories.ranks }
+        requires absent { HasBlock self.old place.store place.space place.block.lo place.block.hi → ⊥ }
         ensures serves { Serves self.old self.new }
         ensures pinned { KeepsPinned self.old self.new }
-        ensures traced { Traces (IsYielding self.old.spaces.memories.capacity space len) self.old self.new }
-        ensures ok { OnOk result (IsFull self.new space len → ⊥) }
+        ensures kept { OnOk result (KeepsLeft self.old self.new place.space) }
+        ensures made { MakesHostBlocks self.old self.new }
+        ensures traced { Traces (IsMakingWay self.old (home_at place.store place.space place.block.lo place.block.hi)) self.old self.new }
+        ensures ok { OnOk result (IsFull self.new place.space (place.block.hi - place.block.lo) → ⊥) }
     {
         self.is_sound();
-        'evictions: while self.is_full(space, len) {
-            self.evict_one(alloc, space, chooser)?;
+        'evictions: while self.is_full(place.space, place.block.len()) {
+            self.evict_one(alloc, place.space, chooser)?;
         }
         Ok(())
     }
@@ -114,10 +122,13 @@ impl<J: Journal> Directory<J> {
         requires ranks { place.space ≤ self.old.spaces.memories.ranks }
         ensures serves { Serves self.old self.new }
         ensures pinned { KeepsPinned self.old self.new }
-        ensures traced { Traces (IsYielding self.old.spaces.memories.capacity place.space (place.block.hi - place.block.lo)) self.old self.new }
+        ensures kept { OnOk result (KeepsLeft self.old self.new place.space) }
+        ensures made { MakesOnly self.old self.new (home_at place.store place.space place.block.lo place.block.hi) }
+        ensures traced { Traces (IsMakingWay self.old (home_at place.store place.space place.block.lo place.block.hi)) self.old self.new }
         ensures fault { IfErr result (IsAcquireFault self.old place.store place.space place.block.lo place.block.hi) }
         ensures early { IfErr result (IsEarly self.old self.new) }
-        ensures room { OnOk result (IsShort self.old place.store place.space place.block.lo place.block.hi → ⊥) }
+        ensures fits { OnOk result (0 < place.space → HasBlock self.old place.store place.space place.block.lo place.block.hi ⊎ (IsFull self.new place.space (place.block.hi - place.block.lo) → ⊥)) }
+        ensures long { OnOk result (IsShort self.old place.store place.space place.block.lo place.block.hi → ⊥) }
     {
         self.is_sound();
         let store = StoreId { id: place.store };
@@ -133,9 +144,7 @@ impl<J: Journal> Directory<J> {
             return Ok(());
         }
         let capacity = self.capacity();
-        let Some(pinned) = self.pinned(place.space) else {
-            return Err(AcquireFault::Memory);
-        };
+        let pinned = self.pinned(place.space);
         if exceeds(pinned, need, capacity) {
             return Err(AcquireFault::NoRoom {
                 need,
@@ -143,7 +152,7 @@ impl<J: Journal> Directory<J> {
                 capacity,
             });
         }
-        self.make_room(alloc, place.space, need, chooser)?;
+        self.make_room(alloc, place, chooser)?;
         Ok(())
     }
 }

@@ -1,11 +1,12 @@
-use Rattle.std.proofs.Common.{◌-◌}
-use Rattle.sk_container.proofs.HostLines.{traces-hosting-unfilled}
+use Rattle.std.proofs.Common.{refl}
+use Rattle.sk_coherence_laws.specs.HostBlocks.{home_at}
+use Rattle.sk_container.proofs.HostLines.{traces-placing}
 use Rattle.sk_container.proofs.host.acquire_write.Goals as goal
 
 pub returns-in-Ok-clause-traced : goal.returns-in-Ok-clause-traced
-returns-in-Ok-clause-traced g c = let d = c.args.dir.now in
-    traces-hosting-unfilled d c.acquire_write.new.self d.spaces.memories.capacity (c.args.block.hi - c.args.block.lo) c.acquire_write.ensures.traced
+returns-in-Ok-clause-traced g c = let b = c.args.block in
+    traces-placing c.args.dir.now c.acquire_write.new.self (home_at c.args.store.id 0 b.lo b.hi) refl c.acquire_write.ensures.traced
 
 pub returns-in-Err-clause-traced : goal.returns-in-Err-clause-traced
-returns-in-Err-clause-traced g c = let d = c.args.dir.now in
-    traces-hosting-unfilled d c.acquire_write.new.self d.spaces.memories.capacity (c.args.block.hi - c.args.block.lo) c.acquire_write.ensures.traced
+returns-in-Err-clause-traced g c = let b = c.args.block in
+    traces-placing c.args.dir.now c.acquire_write.new.self (home_at c.args.store.id 0 b.lo b.hi) refl c.acquire_write.ensures.traced

@@ -1,12 +1,11 @@
-use Rattle.std.proofs.Common.{◌-◌, arith}
-use Rattle.sk_coherence_laws.specs.Steps.{IsServing, IsDue}
+use Rattle.std.proofs.Common.{arith}
+use Rattle.sk_spaces.specs.Machine.{Home}
+use Rattle.sk_coherence_laws.specs.HostBlocks.{home_at}
 use Rattle.sk_coherence_laws.proofs.AcquireLemmas.{store-stays}
 use Rattle.sk_coherence_laws.proofs.ServesLemmas.{serves-trans}
-use Rattle.sk_coherence_laws.proofs.TracesLemmas.{traces-trans, traces-map}
-use Rattle.sk_coherence.specs.Room.{IsYielding}
-use Rattle.sk_coherence.proofs.StepKinds.{serving-due, yielding-due}
-use Rattle.sk_coherence.proofs.RoomLemmas.{block-stays, owned-stays}
+use Rattle.sk_coherence.proofs.RoomLemmas.{block-stays, owned-stays, traces-way, traces-due}
 use Rattle.sk_coherence.proofs.PinnedLemmas.{but-trans}
+use Rattle.sk_coherence.proofs.LeftLemmas.{left-acquired, only-acquired, only-trans}
 use Rattle.sk_coherence.proofs.directory.Directory.acquire_read.Goals as goal
 
 pub acquire_here-requires-clause-there : goal.acquire_here-requires-clause-there
@@ -22,12 +21,6 @@ pub acquire_here-requires-clause-owned : goal.acquire_here-requires-clause-owned
 acquire_here-requires-clause-owned g c = λ i above below.
     owned-stays c.args.self.now c.find_room.new.self c.args.store.id i c.find_room.ensures.serves (c.requires.owned i above below)
 
-pub returns-in_err-find_room-clause-traced : goal.returns-in_err-find_room-clause-traced
-returns-in_err-find_room-clause-traced g c =
-    let a = c.args.self.now in let b = c.find_room.new.self in
-    let p = c.args.space in let r = c.args.block in let w = a.spaces.memories.capacity in
-    traces-map (IsYielding w p (r.hi - r.lo)) (IsDue w p (r.hi - r.lo)) a b (yielding-due w p (r.hi - r.lo)) c.find_room.ensures.traced
-
 pub returns-in-Ok-clause-ok : goal.returns-in-Ok-clause-ok
 returns-in-Ok-clause-ok g c = let e = c.in-Ok.ensures.ok in record {
   before = e.before;
@@ -36,26 +29,48 @@ returns-in-Ok-clause-ok g c = let e = c.in-Ok.ensures.ok in record {
   pins = e.pins;
 }
 
-pub returns-in-Ok-clause-traced : goal.returns-in-Ok-clause-traced
-returns-in-Ok-clause-traced g c =
-    let a = c.args.self.now in let b = c.find_room.new.self in let n = c.acquire_here.new.self in
-    let s = c.args.store.id in let p = c.args.space in let r = c.args.block in let w = a.spaces.memories.capacity in
-    traces-trans (IsDue w p (r.hi - r.lo)) a b n
-    (traces-map (IsYielding w p (r.hi - r.lo)) (IsDue w p (r.hi - r.lo)) a b (yielding-due w p (r.hi - r.lo)) c.find_room.ensures.traced)
-    (traces-map (IsServing s p r.lo r.hi) (IsDue w p (r.hi - r.lo)) b n (serving-due s p r.lo r.hi w (r.hi - r.lo)) c.acquire_here.ensures.traced)
-
 pub returns-in-Err-clause-err : goal.returns-in-Err-clause-err
 returns-in-Err-clause-err g c = serves-trans c.args.self.now c.find_room.new.self c.acquire_here.new.self c.is_sound.ensures c.find_room.ensures.serves c.in-Err.ensures.err
 
-pub returns-in-Err-clause-traced : goal.returns-in-Err-clause-traced
-returns-in-Err-clause-traced g c =
-    let a = c.args.self.now in let b = c.find_room.new.self in let n = c.acquire_here.new.self in
-    let s = c.args.store.id in let p = c.args.space in let r = c.args.block in let w = a.spaces.memories.capacity in
-    traces-trans (IsDue w p (r.hi - r.lo)) a b n
-    (traces-map (IsYielding w p (r.hi - r.lo)) (IsDue w p (r.hi - r.lo)) a b (yielding-due w p (r.hi - r.lo)) c.find_room.ensures.traced)
-    (traces-map (IsServing s p r.lo r.hi) (IsDue w p (r.hi - r.lo)) b n (serving-due s p r.lo r.hi w (r.hi - r.lo)) c.acquire_here.ensures.traced)
-
 pub returns-in-Ok-clause-others : goal.returns-in-Ok-clause-others
 returns-in-Ok-clause-others g c =
-    but-trans c.args.self.now c.find_room.new.self c.acquire_here.new.self (record { store = c.args.store.id; space = c.args.space; lo = c.args.block.lo; hi = c.args.block.hi })
+    but-trans c.args.self.now c.find_room.new.self c.acquire_here.new.self (home_at c.args.store.id c.args.space c.args.block.lo c.args.block.hi)
+    c.find_room.ensures.serves c.find_room.ensures.pinned c.acquire_here.ensures.others
+
+pub returns-in_err-find_room-clause-traced : goal.returns-in_err-find_room-clause-traced
+returns-in_err-find_room-clause-traced g c =
+    let home : Home = home_at c.args.store.id c.args.space c.args.block.lo c.args.block.hi in
+    traces-way c.args.self.now c.find_room.new.self home c.args.need.lo c.args.need.hi c.find_room.ensures.traced
+
+pub returns-in-Ok-clause-traced : goal.returns-in-Ok-clause-traced
+returns-in-Ok-clause-traced g c =
+    let home : Home = home_at c.args.store.id c.args.space c.args.block.lo c.args.block.hi in
+    traces-due c.args.self.now c.find_room.new.self c.acquire_here.new.self home c.args.need.lo c.args.need.hi c.find_room.ensures.traced c.acquire_here.ensures.traced
+
+pub returns-in-Err-clause-traced : goal.returns-in-Err-clause-traced
+returns-in-Err-clause-traced g c =
+    let home : Home = home_at c.args.store.id c.args.space c.args.block.lo c.args.block.hi in
+    traces-due c.args.self.now c.find_room.new.self c.acquire_here.new.self home c.args.need.lo c.args.need.hi c.find_room.ensures.traced c.acquire_here.ensures.traced
+
+pub returns-in-Ok-clause-kept : goal.returns-in-Ok-clause-kept
+returns-in-Ok-clause-kept g c =
+    let home : Home = home_at c.args.store.id c.args.space c.args.block.lo c.args.block.hi in
+    let a = c.args.self.now in
+    let b = c.find_room.new.self in
+    let n = c.acquire_here.new.self in
+    left-acquired a b n home c.in-Ok.copy.id c.is_sound.ensures c.find_room.ensures.serves c.in-Ok.ensures.ok (c.in_ok-find_room.ensures.kept) c.in-Ok.ensures.kept
+
+pub returns-in-Ok-clause-made : goal.returns-in-Ok-clause-made
+returns-in-Ok-clause-made g c =
+    let home : Home = home_at c.args.store.id c.args.space c.args.block.lo c.args.block.hi in
+    only-acquired c.args.self.now c.find_room.new.self c.acquire_here.new.self home c.in-Ok.copy.id c.find_room.ensures.serves c.in-Ok.ensures.ok c.find_room.ensures.made c.acquire_here.ensures.made
+
+pub returns-in-Err-clause-made : goal.returns-in-Err-clause-made
+returns-in-Err-clause-made g c =
+    let home : Home = home_at c.args.store.id c.args.space c.args.block.lo c.args.block.hi in
+    only-trans c.args.self.now c.find_room.new.self c.acquire_here.new.self home c.find_room.ensures.serves c.in-Err.ensures.err c.find_room.ensures.made c.acquire_here.ensures.made
+
+pub returns-in-Err-clause-others : goal.returns-in-Err-clause-others
+returns-in-Err-clause-others g c =
+    but-trans c.args.self.now c.find_room.new.self c.acquire_here.new.self (home_at c.args.store.id c.args.space c.args.block.lo c.args.block.hi)
     c.find_room.ensures.serves c.find_room.ensures.pinned c.acquire_here.ensures.others

@@ -1,11 +1,10 @@
-use Rattle.std.proofs.Common.{◌-◌, arith}
-use Rattle.sk_coherence_laws.specs.Steps.{IsAlloc}
+use Rattle.std.proofs.Common.{arith}
+use Rattle.sk_spaces.specs.Machine.{Home}
+use Rattle.sk_coherence_laws.specs.HostBlocks.{home_at}
 use Rattle.sk_coherence_laws.proofs.AcquireLemmas.{store-stays}
 use Rattle.sk_coherence_laws.proofs.ServesLemmas.{serves-trans}
-use Rattle.sk_coherence_laws.proofs.TracesLemmas.{traces-trans, traces-map}
-use Rattle.sk_coherence.specs.Room.{IsYielding}
-use Rattle.sk_coherence.proofs.StepKinds.{alloc-yielding}
-use Rattle.sk_coherence.proofs.RoomLemmas.{block-stays}
+use Rattle.sk_coherence.proofs.RoomLemmas.{block-stays, traces-yielding, traces-way-yielding}
+use Rattle.sk_coherence.proofs.LeftLemmas.{left-owed, only-owed, only-trans}
 use Rattle.sk_coherence.proofs.directory.Directory.acquire_write.Goals as goal
 
 pub acquire_write_here-requires-clause-there : goal.acquire_write_here-requires-clause-there
@@ -24,19 +23,36 @@ returns-in-Ok-clause-ok g c = let e = c.in-Ok.ensures.ok in record {
   owes = e.owes;
 }
 
-pub returns-in-Ok-clause-traced : goal.returns-in-Ok-clause-traced
-returns-in-Ok-clause-traced g c =
-    let a = c.args.self.now in let b = c.find_room.new.self in let n = c.acquire_write_here.new.self in
-    let s = c.args.store.id in let p = c.args.space in let r = c.args.block in let w = a.spaces.memories.capacity in
-    traces-trans (IsYielding w p (r.hi - r.lo)) a b n c.find_room.ensures.traced
-    (traces-map (IsAlloc s p r.lo r.hi) (IsYielding w p (r.hi - r.lo)) b n (alloc-yielding s p p r.lo r.hi w (r.hi - r.lo)) c.acquire_write_here.ensures.traced)
-
 pub returns-in-Err-clause-err : goal.returns-in-Err-clause-err
 returns-in-Err-clause-err g c = serves-trans c.args.self.now c.find_room.new.self c.acquire_write_here.new.self c.is_sound.ensures c.find_room.ensures.serves c.in-Err.ensures.err
 
+pub returns-in-Ok-clause-traced : goal.returns-in-Ok-clause-traced
+returns-in-Ok-clause-traced g c =
+    let home : Home = home_at c.args.store.id c.args.space c.args.block.lo c.args.block.hi in
+    traces-yielding c.args.self.now c.find_room.new.self c.acquire_write_here.new.self home c.find_room.ensures.traced c.acquire_write_here.ensures.traced
+
 pub returns-in-Err-clause-traced : goal.returns-in-Err-clause-traced
 returns-in-Err-clause-traced g c =
-    let a = c.args.self.now in let b = c.find_room.new.self in let n = c.acquire_write_here.new.self in
-    let s = c.args.store.id in let p = c.args.space in let r = c.args.block in let w = a.spaces.memories.capacity in
-    traces-trans (IsYielding w p (r.hi - r.lo)) a b n c.find_room.ensures.traced
-    (traces-map (IsAlloc s p r.lo r.hi) (IsYielding w p (r.hi - r.lo)) b n (alloc-yielding s p p r.lo r.hi w (r.hi - r.lo)) c.acquire_write_here.ensures.traced)
+    let home : Home = home_at c.args.store.id c.args.space c.args.block.lo c.args.block.hi in
+    traces-yielding c.args.self.now c.find_room.new.self c.acquire_write_here.new.self home c.find_room.ensures.traced c.acquire_write_here.ensures.traced
+
+pub returns-in_err-find_room-clause-traced : goal.returns-in_err-find_room-clause-traced
+returns-in_err-find_room-clause-traced g c =
+    let home : Home = home_at c.args.store.id c.args.space c.args.block.lo c.args.block.hi in
+    traces-way-yielding c.args.self.now c.find_room.new.self home c.find_room.ensures.traced
+
+pub returns-in-Ok-clause-kept : goal.returns-in-Ok-clause-kept
+returns-in-Ok-clause-kept g c =
+    left-owed c.args.self.now c.find_room.new.self c.acquire_write_here.new.self c.args.store.id c.in-Ok.copy.id c.args.space c.is_sound.ensures c.find_room.ensures.serves c.in-Ok.ensures.ok
+    c.in_ok-find_room.ensures.kept c.in-Ok.ensures.kept
+
+pub returns-in-Ok-clause-made : goal.returns-in-Ok-clause-made
+returns-in-Ok-clause-made g c =
+    let home : Home = home_at c.args.store.id c.args.space c.args.block.lo c.args.block.hi in
+    only-owed c.args.self.now c.find_room.new.self c.acquire_write_here.new.self home c.args.store.id c.in-Ok.copy.id c.find_room.ensures.serves c.in-Ok.ensures.ok c.find_room.ensures.made
+    c.acquire_write_here.ensures.made
+
+pub returns-in-Err-clause-made : goal.returns-in-Err-clause-made
+returns-in-Err-clause-made g c =
+    let home : Home = home_at c.args.store.id c.args.space c.args.block.lo c.args.block.hi in
+    only-trans c.args.self.now c.find_room.new.self c.acquire_write_here.new.self home c.find_room.ensures.serves c.in-Err.ensures.err c.find_room.ensures.made c.acquire_write_here.ensures.made

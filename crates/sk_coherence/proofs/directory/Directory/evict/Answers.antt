@@ -1,10 +1,11 @@
 use Rattle.std.proofs.Common.{sym, ◌∙◌}
 use Rattle.sk_coherence_laws.specs.Directory.{copy_at}
 use Rattle.sk_coherence_laws.specs.Moves.{Idles}
+use Rattle.sk_coherence_laws.proofs.NamedMoves.{on_err_any}
 use Rattle.sk_coherence_laws.proofs.ServesLemmas.{idle-reserve}
 use Rattle.sk_coherence_laws.proofs.TracedWrite.{some_home}
 use Rattle.sk_coherence.proofs.RetreatLemmas.{retreats-trans, retreats-idle}
-use Rattle.sk_coherence.proofs.EvictLemmas.{evicted, evicted-serves, evicted-traced}
+use Rattle.sk_coherence.proofs.EvictLemmas.{evicted, evicted-made, evicted-serves, evicted-traced}
 use Rattle.sk_coherence.proofs.directory.Directory.evict.Goals as goal
 
 pub free-requires-clause-there : goal.free-requires-clause-there
@@ -52,3 +53,29 @@ returns-clause-traced g c = let a = c.args.self.now in let b = c.retreat.new.sel
     let i : Idles b k = idle-reserve b k c.reserve.ensures.same c.reserve.ensures.spaces c.reserve.ensures.kept in
     evicted-traced a b k c.free.new.self c.args.copy.id c.is_sound.ensures c.is_sound-2.ensures c.requires.there c.requires.far c.requires.unpinned
     c.retreat.ensures.retreats i c.in_ok-retreat.ensures.ok c.free.ensures.freed c.free.ensures.traced
+
+pub returns-in_err-retreat-clause-made : goal.returns-in_err-retreat-clause-made
+returns-in_err-retreat-clause-made g c = c.retreat.ensures.retreats.made
+
+pub returns-in_err-reserve-clause-made : goal.returns-in_err-reserve-clause-made
+returns-in_err-reserve-clause-made g c = let a = c.args.self.now in let b = c.retreat.new.self in let k = c.reserve.new.self in
+    let i : Idles b k = idle-reserve b k c.reserve.ensures.same c.reserve.ensures.spaces c.reserve.ensures.kept in
+    (retreats-trans a b k c.args.copy.id c.is_sound.ensures c.retreat.ensures.retreats (retreats-idle b k c.args.copy.id i)).made
+
+pub returns-clause-made : goal.returns-clause-made
+returns-clause-made g c = let a = c.args.self.now in let b = c.retreat.new.self in let k = c.reserve.new.self in
+    let i : Idles b k = idle-reserve b k c.reserve.ensures.same c.reserve.ensures.spaces c.reserve.ensures.kept in
+    evicted-made a b k c.free.new.self c.args.copy.id c.is_sound.ensures c.is_sound-2.ensures c.requires.there c.requires.far c.requires.unpinned
+    c.retreat.ensures.retreats i c.in_ok-retreat.ensures.ok c.free.ensures.freed
+
+pub returns-in_err-retreat-clause-stands : goal.returns-in_err-retreat-clause-stands
+returns-in_err-retreat-clause-stands g c = let a = c.args.self.now in let b = c.retreat.new.self in
+    on_err_any c.from_residual.result
+    (some_home (copy_at a c.args.copy.id) (copy_at b c.args.copy.id) (sym (c.retreat.ensures.retreats.stays c.args.copy.id c.requires.there).home) c.requires.there)
+
+pub returns-in_err-reserve-clause-stands : goal.returns-in_err-reserve-clause-stands
+returns-in_err-reserve-clause-stands g c = let a = c.args.self.now in let b = c.retreat.new.self in let k = c.reserve.new.self in
+    let i : Idles b k = idle-reserve b k c.reserve.ensures.same c.reserve.ensures.spaces c.reserve.ensures.kept in
+    on_err_any c.from_residual-in_err-reserve.result
+    (some_home (copy_at a c.args.copy.id) (copy_at k c.args.copy.id)
+    (sym ((retreats-trans a b k c.args.copy.id c.is_sound.ensures c.retreat.ensures.retreats (retreats-idle b k c.args.copy.id i)).stays c.args.copy.id c.requires.there).home) c.requires.there)

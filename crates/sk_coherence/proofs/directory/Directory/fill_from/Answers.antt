@@ -6,8 +6,8 @@ use Rattle.sk_coherence_laws.specs.Steps.{IsFill}
 use Rattle.sk_coherence_laws.proofs.ServesLemmas.{serves-idle, grows-idle, idle-reserve}
 use Rattle.sk_coherence_laws.proofs.FillSums.{traces-idle, idle-trans, sum-serves, sum-traced, sum-grows, sum-read}
 use Rattle.sk_coherence.proofs.RetreatLemmas.{can-on}
-use Rattle.sk_coherence.proofs.LaterLemmas.{kept-fill, before-fill, sum-near}
-use Rattle.sk_coherence.specs.Later.{IsClose, IsFillNear}
+use Rattle.sk_coherence.proofs.LaterLemmas.{kept-fill, before-fill, sum-beside}
+use Rattle.sk_coherence.specs.Later.{LieTogether, IsFillBeside}
 use Rattle.sk_coherence.proofs.directory.Directory.fill_from.Goals as goal
 
 pub returns-in_err-reserve-clause-serves : goal.returns-in_err-reserve-clause-serves
@@ -22,7 +22,7 @@ returns-in_err-reserve-clause-traced g c =
     let a = c.args.self.now in
     let b = c.reserve.new.self in
     let i : Idles a b = idle-reserve a b c.reserve.ensures.same c.reserve.ensures.spaces c.reserve.ensures.kept in
-    traces-idle IsFill a b i
+    λ home lies. traces-idle (IsFill home c.args.transfer.range.lo c.args.transfer.range.hi) a b i
 
 pub returns-in_err-reserve-clause-grows : goal.returns-in_err-reserve-clause-grows
 returns-in_err-reserve-clause-grows g c =
@@ -59,7 +59,7 @@ returns-in_err-fill-clause-traced g c =
     let b = c.reserve.new.self in
     let n = c.fill.new.self in
     let i : Idles a n = idle-trans a b n (idle-reserve a b c.reserve.ensures.same c.reserve.ensures.spaces c.reserve.ensures.kept) c.in_err-fill.ensures.err in
-    traces-idle IsFill a n i
+    λ home lies. traces-idle (IsFill home c.args.transfer.range.lo c.args.transfer.range.hi) a n i
 
 pub returns-in_err-fill-clause-grows : goal.returns-in_err-fill-clause-grows
 returns-in_err-fill-clause-grows g c =
@@ -105,7 +105,7 @@ returns-clause-traced g c =
     let i : Idles a b = idle-reserve a b c.reserve.ensures.same c.reserve.ensures.spaces c.reserve.ensures.kept in
     let can : CanMove b t.from.id t.to.id t.range.lo t.range.hi = can-on a b c.reserve.ensures.same t.from.id t.to.id t.range.lo t.range.hi c.requires.can in
     let missing : IsStaleAt b t.to.id t.range.lo t.range.hi = λ k above below. ap (λ x. state_in (copy_at x t.to.id) k) c.reserve.ensures.same ∙ c.requires.missing k above below in
-    sum-traced a b n t.from.id t.to.id t.range.lo t.range.hi c.is_sound.ensures c.is_sound-2.ensures i can missing c.in_ok-fill.ensures.ok c.in_ok-fill.ensures.traced
+    sum-traced a b n t.from.id t.to.id t.range.lo t.range.hi c.is_sound.ensures c.is_sound-2.ensures i can missing c.in_ok-fill.ensures.ok c.in_ok-fill.ensures.traced c.requires.some
     (subst (λ (x : DirectoryView). IsSourceAt x t.from.id t.to.id t.range.lo t.range.hi) (sym c.reserve.ensures.same) c.requires.source)
 
 pub returns-clause-grows : goal.returns-clause-grows
@@ -152,23 +152,23 @@ returns-clause-ok g c =
     let missing : IsStaleAt b t.to.id t.range.lo t.range.hi = λ k above below. ap (λ x. state_in (copy_at x t.to.id) k) c.reserve.ensures.same ∙ c.requires.missing k above below in
     sum-read a b n t.from.id t.to.id t.range.lo t.range.hi c.is_sound.ensures c.is_sound-2.ensures i can missing c.in_ok-fill.ensures.ok c.in_ok-fill.ensures.traced t.range.lo (λ k above below. absurd (omega (arith, above, below)))
 
-pub returns-in_err-reserve-clause-near : goal.returns-in_err-reserve-clause-near
-returns-in_err-reserve-clause-near g c =
+pub returns-in_err-reserve-clause-beside : goal.returns-in_err-reserve-clause-beside
+returns-in_err-reserve-clause-beside g c =
     let a = c.args.self.now in
     let b = c.reserve.new.self in
     let i : Idles a b = idle-reserve a b c.reserve.ensures.same c.reserve.ensures.spaces c.reserve.ensures.kept in
-    λ close. traces-idle IsFillNear a b i
+    λ near home lies. traces-idle (IsFillBeside home c.args.transfer.range.lo c.args.transfer.range.hi) a b i
 
-pub returns-in_err-fill-clause-near : goal.returns-in_err-fill-clause-near
-returns-in_err-fill-clause-near g c =
+pub returns-in_err-fill-clause-beside : goal.returns-in_err-fill-clause-beside
+returns-in_err-fill-clause-beside g c =
     let a = c.args.self.now in
     let b = c.reserve.new.self in
     let n = c.fill.new.self in
     let i : Idles a n = idle-trans a b n (idle-reserve a b c.reserve.ensures.same c.reserve.ensures.spaces c.reserve.ensures.kept) c.in_err-fill.ensures.err in
-    λ close. traces-idle IsFillNear a n i
+    λ near home lies. traces-idle (IsFillBeside home c.args.transfer.range.lo c.args.transfer.range.hi) a n i
 
-pub returns-clause-near : goal.returns-clause-near
-returns-clause-near g c =
+pub returns-clause-beside : goal.returns-clause-beside
+returns-clause-beside g c =
     let a = c.args.self.now in
     let b = c.reserve.new.self in
     let n = c.fill.new.self in
@@ -176,6 +176,6 @@ returns-clause-near g c =
     let i : Idles a b = idle-reserve a b c.reserve.ensures.same c.reserve.ensures.spaces c.reserve.ensures.kept in
     let can : CanMove b t.from.id t.to.id t.range.lo t.range.hi = can-on a b c.reserve.ensures.same t.from.id t.to.id t.range.lo t.range.hi c.requires.can in
     let missing : IsStaleAt b t.to.id t.range.lo t.range.hi = λ k above below. ap (λ x. state_in (copy_at x t.to.id) k) c.reserve.ensures.same ∙ c.requires.missing k above below in
-    λ close. sum-near a b n t.from.id t.to.id t.range.lo t.range.hi c.is_sound-2.ensures i can missing c.in_ok-fill.ensures.ok c.in_ok-fill.ensures.traced
+    λ near. sum-beside a b n t.from.id t.to.id t.range.lo t.range.hi c.is_sound-2.ensures i can c.requires.some missing c.in_ok-fill.ensures.ok c.in_ok-fill.ensures.traced
     (subst (λ (x : DirectoryView). IsSourceAt x t.from.id t.to.id t.range.lo t.range.hi) (sym c.reserve.ensures.same) c.requires.source)
-    (subst (λ (x : DirectoryView). IsClose x t.from.id t.to.id) (sym c.reserve.ensures.same) close)
+    (subst (λ (x : DirectoryView). LieTogether (copy_at x t.from.id) (copy_at x t.to.id)) (sym c.reserve.ensures.same) near)

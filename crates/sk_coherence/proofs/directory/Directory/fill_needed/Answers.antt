@@ -1,13 +1,11 @@
 use Rattle.std.proofs.Common.{◌<◌, ◌≤◌, arith}
 use Rattle.sk_coherence_laws.specs.Directory.{copy_at}
 use Rattle.sk_copy_states.specs.Sources.{MayRead}
-use Rattle.sk_coherence_laws.specs.Steps.{IsFill}
 use Rattle.sk_coherence_laws.proofs.AddLemmas.{if_some}
 use Rattle.sk_coherence_laws.proofs.ServesLemmas.{serves-trans, grows-trans}
-use Rattle.sk_coherence_laws.proofs.TracesLemmas.{traces-trans}
+use Rattle.sk_coherence_laws.proofs.TracesLemmas.{filled-trans, filled-wider}
 use Rattle.sk_copy_states.proofs.RoomLemmas.{kept-trans}
 use Rattle.sk_coherence_laws.proofs.FillSums.{owner-carried, read-more}
-use Rattle.sk_coherence.proofs.LaterLemmas.{near-on}
 use Rattle.sk_coherence.proofs.directory.Directory.fill_needed.Goals as goal
 
 pub fill_next-requires-clause-owned : goal.fill_next-requires-clause-owned
@@ -20,7 +18,8 @@ returns-in_err-next-clause-serves g c =
 
 pub returns-in_err-next-clause-traced : goal.returns-in_err-next-clause-traced
 returns-in_err-next-clause-traced g c =
-    traces-trans IsFill c.args.self.now c.parts.self c.fill_next.new.self c.parts.invariant.traced c.fill_next.ensures.traced
+    filled-trans c.args.self.now c.parts.self c.fill_next.new.self c.args.copy.id c.args.need.lo c.args.need.hi c.parts.invariant.stays.home c.parts.invariant.traced
+    (filled-wider c.parts.self c.fill_next.new.self c.args.copy.id c.parts.lo c.args.need.hi c.args.need.lo c.args.need.hi c.parts.invariant.above (omega arith) c.fill_next.ensures.traced)
 
 pub parts-preserved : goal.parts-preserved
 parts-preserved g c =
@@ -32,9 +31,9 @@ parts-preserved g c =
       above = omega (arith, v.above, part.0);
       below = part.1;
       serves = serves-trans c.args.self.now c.parts.self n c.is_sound.ensures v.serves c.fill_next.ensures.serves;
-      traced = traces-trans IsFill c.args.self.now c.parts.self n v.traced c.fill_next.ensures.traced;
+      traced = filled-trans c.args.self.now c.parts.self n c.args.copy.id c.args.need.lo c.args.need.hi c.parts.invariant.stays.home c.parts.invariant.traced
+          (filled-wider c.parts.self n c.args.copy.id c.parts.lo c.args.need.hi c.args.need.lo c.args.need.hi c.parts.invariant.above (omega arith) c.fill_next.ensures.traced);
       stays = grows-trans c.args.self.now c.parts.self n c.args.copy.id v.stays c.fill_next.ensures.stays;
-      near = near-on c.args.self.now c.parts.self n c.args.copy.id v.stays v.near c.fill_next.ensures.near;
       grows = λ q. grows-trans c.args.self.now c.parts.self n q (v.grows q) (c.fill_next.ensures.grows q);
       others = λ q ne. kept-trans (copy_at c.args.self.now q) (copy_at c.parts.self q) (copy_at n q) (v.others q ne) (c.fill_next.ensures.others q ne);
       done = read-more c.parts.self n c.args.copy.id c.args.need.lo c.parts.lo c.in-Some.next c.fill_next.ensures.stays v.done part.2;
@@ -46,7 +45,8 @@ returns-in-None-clause-serves g c =
 
 pub returns-in-None-clause-traced : goal.returns-in-None-clause-traced
 returns-in-None-clause-traced g c =
-    traces-trans IsFill c.args.self.now c.parts.self c.fill_next.new.self c.parts.invariant.traced c.fill_next.ensures.traced
+    filled-trans c.args.self.now c.parts.self c.fill_next.new.self c.args.copy.id c.args.need.lo c.args.need.hi c.parts.invariant.stays.home c.parts.invariant.traced
+    (filled-wider c.parts.self c.fill_next.new.self c.args.copy.id c.parts.lo c.args.need.hi c.args.need.lo c.args.need.hi c.parts.invariant.above (omega arith) c.fill_next.ensures.traced)
 
 pub returns-in_err-next-clause-grows : goal.returns-in_err-next-clause-grows
 returns-in_err-next-clause-grows g c = λ q.
@@ -63,11 +63,3 @@ returns-in-None-clause-grows g c = λ q.
 pub returns-in-None-clause-others : goal.returns-in-None-clause-others
 returns-in-None-clause-others g c = λ q ne. let n = c.fill_next.new.self in
     kept-trans (copy_at c.args.self.now q) (copy_at c.parts.self q) (copy_at n q) (c.parts.invariant.others q ne) (c.fill_next.ensures.others q ne)
-
-pub returns-in_err-next-clause-near : goal.returns-in_err-next-clause-near
-returns-in_err-next-clause-near g c = let v = c.parts.invariant in
-    near-on c.args.self.now c.parts.self c.fill_next.new.self c.args.copy.id v.stays v.near c.fill_next.ensures.near
-
-pub returns-in-None-clause-near : goal.returns-in-None-clause-near
-returns-in-None-clause-near g c = let v = c.parts.invariant in
-    near-on c.args.self.now c.parts.self c.fill_next.new.self c.args.copy.id v.stays v.near c.fill_next.ensures.near

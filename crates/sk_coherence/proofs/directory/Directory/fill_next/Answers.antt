@@ -1,11 +1,13 @@
-use Rattle.std.proofs.Common.{◌≡◌, ℕ, arith, sym, subst, inl}
+use Rattle.std.proofs.Common.{◌≡◌, ℕ, arith, sym, subst}
 use Rattle.sk_ranges.specs.declared.state.State.TheVariants.{Stale}
 use Rattle.sk_copy_states.specs.Copies.{state_in}
 use Rattle.sk_copy_states.specs.Sources.{MayRead}
 use Rattle.sk_coherence_laws.specs.Directory.{copy_at}
 use Rattle.sk_coherence_laws.specs.Moves.{CanMove, IsSourceAt}
-use Rattle.sk_coherence_laws.proofs.FillSums.{read-more}
-use Rattle.sk_coherence.specs.Evicts.{IsOnHost}
+use Rattle.sk_coherence_laws.specs.Steps.{IsFill, AreFilled}
+use Rattle.sk_coherence_laws.proofs.FillSums.{read-more, traces-idle}
+use Rattle.sk_coherence_laws.proofs.ServesLemmas.{idle-none}
+use Rattle.sk_coherence_laws.proofs.TracesLemmas.{filled-wider}
 use Rattle.sk_coherence.proofs.directory.Directory.fill_next.Goals as goal
 
 pub fill_from-requires-clause-can : goal.fill_from-requires-clause-can
@@ -45,10 +47,29 @@ returns-clause-part g c =
       read-more a n c.args.copy.id c.args.need.lo run.lo t.range.hi (c.fill_from.ensures.grows c.args.copy.id) c.in-Some.ensures.earlier filled,
     )
 
-pub returns-in_err-fill_from-clause-near : goal.returns-in_err-fill_from-clause-near
-returns-in_err-fill_from-clause-near g c = let a = c.args.self.now in
-    λ host. c.fill_from.ensures.near (inl (subst (λ (x : ℕ). IsOnHost (copy_at a x)) (sym c.in-Some-source.ensures.to) host))
+pub fill_from-requires-clause-some : goal.fill_from-requires-clause-some
+fill_from-requires-clause-some g c = let e = c.in-Some-source.ensures in omega (arith, e.begins, e.within.0)
 
-pub returns-clause-near : goal.returns-clause-near
-returns-clause-near g c = let a = c.args.self.now in
-    λ host. c.fill_from.ensures.near (inl (subst (λ (x : ℕ). IsOnHost (copy_at a x)) (sym c.in-Some-source.ensures.to) host))
+pub returns-in_err-fill_from-clause-traced : goal.returns-in_err-fill_from-clause-traced
+returns-in_err-fill_from-clause-traced g c =
+    let a = c.args.self.now in
+    let n = c.fill_from.new.self in
+    let t = c.in-Some-source.transfer in
+    let e = c.in-Some-source.ensures in
+    filled-wider a n c.args.copy.id t.range.lo t.range.hi c.args.need.lo c.args.need.hi (omega (arith, c.in-Some.ensures.within.0, e.begins)) (omega (arith, c.in-Some.ensures.within.1, e.within.1))
+    (subst (λ (x : ℕ). AreFilled a n x t.range.lo t.range.hi) e.to c.fill_from.ensures.traced)
+
+pub returns-clause-traced : goal.returns-clause-traced
+returns-clause-traced g c =
+    let a = c.args.self.now in
+    let n = c.fill_from.new.self in
+    let t = c.in-Some-source.transfer in
+    let e = c.in-Some-source.ensures in
+    filled-wider a n c.args.copy.id t.range.lo t.range.hi c.args.need.lo c.args.need.hi (omega (arith, c.in-Some.ensures.within.0, e.begins)) (omega (arith, c.in-Some.ensures.within.1, e.within.1))
+    (subst (λ (x : ℕ). AreFilled a n x t.range.lo t.range.hi) e.to c.fill_from.ensures.traced)
+
+pub returns-in_default-clause-traced : goal.returns-in_default-clause-traced
+returns-in_default-clause-traced g c = λ home lies. traces-idle (IsFill home c.args.need.lo c.args.need.hi) c.args.self.now c.args.self.now (idle-none c.args.self.now)
+
+pub returns-in_default-source-clause-traced : goal.returns-in_default-source-clause-traced
+returns-in_default-source-clause-traced g c = λ home lies. traces-idle (IsFill home c.args.need.lo c.args.need.hi) c.args.self.now c.args.self.now (idle-none c.args.self.now)

@@ -3,13 +3,13 @@ use Rattle.sk_spaces.specs.Machine.{Home}
 use Rattle.sk_copies.specs.declared.Transfer.{Transfer}
 use Rattle.sk_coherence_laws.proofs.FillSums.{owner-carried}
 use Rattle.sk_coherence_laws.proofs.ServesLemmas.{serves-trans}
-use Rattle.sk_coherence_laws.proofs.TracesLemmas.{traces-trans}
 use Rattle.sk_coherence_laws.proofs.TracedWrite.{some_home}
 use Rattle.sk_coherence_laws.specs.Directory.{copy_at}
 use Rattle.sk_coherence.specs.Evicts.{IsFar}
-use Rattle.sk_coherence.specs.Later.{AreLeft, IsLater}
-use Rattle.sk_coherence.proofs.LaterLemmas.{grows-more, left-step, looked-bounds}
+use Rattle.sk_coherence.specs.Later.{AreLeft}
+use Rattle.sk_coherence.proofs.LaterLemmas.{grows-more, left-step, looked-bounds, served-trans, served-wider}
 use Rattle.sk_coherence.proofs.PinnedLemmas.{far-trans}
+use Rattle.sk_coherence.proofs.LeftLemmas.{hosts-made, hosts-trans}
 use Rattle.sk_coherence.proofs.directory.Directory.look_needed.Goals as goal
 
 pub look-requires-clause-owned : goal.look-requires-clause-owned
@@ -30,7 +30,8 @@ returns-in_err-looked-clause-traced g c =
     let b = c.parts.self in
     let n = c.look.new.self in
     let v = c.parts.invariant in
-    traces-trans IsLater a b n v.traced c.look.ensures.traced
+    served-trans a b n c.args.copy.id c.args.need.lo c.args.need.hi v.serves (hosts-made a b v.made) (v.grows c.args.copy.id c.requires.there).home v.traced
+    (served-wider b n c.args.copy.id c.parts.lo c.args.need.hi c.args.need.lo c.args.need.hi v.above (omega arith) c.look.ensures.traced)
 
 pub returns-in_err-looked-clause-grows : goal.returns-in_err-looked-clause-grows
 returns-in_err-looked-clause-grows g c =
@@ -54,7 +55,8 @@ returns-in_err-keep-clause-traced g c =
     let b = c.parts.self in
     let n = c.look.new.self in
     let v = c.parts.invariant in
-    traces-trans IsLater a b n v.traced c.look.ensures.traced
+    served-trans a b n c.args.copy.id c.args.need.lo c.args.need.hi v.serves (hosts-made a b v.made) (v.grows c.args.copy.id c.requires.there).home v.traced
+    (served-wider b n c.args.copy.id c.parts.lo c.args.need.hi c.args.need.lo c.args.need.hi v.above (omega arith) c.look.ensures.traced)
 
 pub returns-in_err-keep-clause-grows : goal.returns-in_err-keep-clause-grows
 returns-in_err-keep-clause-grows g c =
@@ -82,12 +84,14 @@ parts-preserved g c =
       above = omega (arith, v.above, bounds.0);
       below = bounds.1;
       serves = serves-trans a b n c.is_sound.ensures v.serves c.look.ensures.serves;
-      traced = traces-trans IsLater a b n v.traced c.look.ensures.traced;
+      traced = served-trans a b n c.args.copy.id c.args.need.lo c.args.need.hi v.serves (hosts-made a b v.made) (v.grows c.args.copy.id c.requires.there).home v.traced
+          (served-wider b n c.args.copy.id c.parts.lo c.args.need.hi c.args.need.lo c.args.need.hi v.above (omega arith) c.look.ensures.traced);
       grows = grows-more a b n v.grows c.look.ensures.grows;
       others = far-trans a b n id v.others c.look.ensures.others;
+      made = hosts-trans a b n v.serves c.look.ensures.serves v.made c.look.ensures.made;
       left = subst (λ (ts : List Transfer). AreLeft n id need.lo looked.hi ts) (sym c.in_ok-keep.ensures)
           (left-step b n id need.lo c.parts.lo need.hi looked.hi c.parts.transfers.items looked.transfer c.look.ensures.grows c.look.ensures.before there far
-          c.look.ensures.others c.look.ensures.made v.above v.left is);
+          c.look.ensures.others c.look.ensures.made c.look.ensures.serves v.above v.left is);
     }
 
 pub returns-in_err-looked-clause-others : goal.returns-in_err-looked-clause-others
@@ -97,3 +101,11 @@ returns-in_err-looked-clause-others g c =
 pub returns-in_err-keep-clause-others : goal.returns-in_err-keep-clause-others
 returns-in_err-keep-clause-others g c =
     far-trans c.args.self.now c.parts.self c.look.new.self c.args.copy.id c.parts.invariant.others c.look.ensures.others
+
+pub returns-in_err-looked-clause-made : goal.returns-in_err-looked-clause-made
+returns-in_err-looked-clause-made g c = let v = c.parts.invariant in
+    hosts-trans c.args.self.now c.parts.self c.look.new.self v.serves c.look.ensures.serves v.made c.look.ensures.made
+
+pub returns-in_err-keep-clause-made : goal.returns-in_err-keep-clause-made
+returns-in_err-keep-clause-made g c = let v = c.parts.invariant in
+    hosts-trans c.args.self.now c.parts.self c.look.new.self v.serves c.look.ensures.serves v.made c.look.ensures.made

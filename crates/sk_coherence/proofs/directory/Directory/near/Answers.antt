@@ -1,14 +1,15 @@
-use Rattle.std.proofs.Common.{◌≡◌, ℕ, List, Option, Some, IsSome, arith, rules, refl, inl, inr, sym, subst, ap, ◌∙◌}
+use Rattle.std.proofs.Common.{◌≡◌, ℕ, List, Option, Some, IsSome, arith, rules, refl, inl, sym, subst, ap, ◌∙◌}
 use Rattle.sk_copy_states.specs.Copies.{store_in, ReachesIn}
 use Rattle.sk_copy_states.specs.Stores.{copies_in}
 use Rattle.sk_copy_states.specs.Sources.{LiesIn, IsNear, NoneNear}
 use Rattle.sk_coherence_laws.specs.Directory.{DirectoryView, copy_at, store_at}
 use Rattle.sk_coherence_laws.specs.Moves.{CanMove, IsStaleAt, IsSourceAt}
 use Rattle.sk_coherence_laws.proofs.SourceLemmas.{move-of-source, reaches_less, source-of}
-use Rattle.sk_coherence.proofs.LaterLemmas.{if-some-map, if-none-map, lies-in, alone-near}
+use Rattle.sk_coherence.proofs.LaterLemmas.{if-none-map, lies-in, alone-near}
 use Rattle.sk_coherence.specs.Evicts.{IsIn}
-use Rattle.sk_coherence.specs.Later.{IsClose, IsAlone}
+use Rattle.sk_coherence.specs.Later.{LieTogether, IsAlone}
 use Rattle.sk_copy_states.specs.declared.held.Held.{Held}
+use Rattle.sk_coherence_laws.proofs.HostLemmas.{if_some_map}
 use Rattle.sk_coherence.proofs.directory.Directory.near.Goals as goal
 
 pub returns-in-Some-clause-can : goal.returns-in-Some-clause-can
@@ -24,7 +25,7 @@ returns-in-Some-clause-can g c =
     let there : IsSome (copy_at d to) = subst (λ (x : DirectoryView). IsSome (copy_at x to)) (sym c.self.view_is) c.requires.there in
     let reaches : ReachesIn (copy_at d to) lo c.args.run.hi = subst (λ (x : DirectoryView). ReachesIn (copy_at x to) lo c.args.run.hi) (sym c.self.view_is) c.requires.reaches in
     let missing : IsStaleAt d to lo c.args.run.hi = subst (λ (x : DirectoryView). IsStaleAt x to lo c.args.run.hi) (sym c.self.view_is) c.requires.stale in
-    if-some-map c.near.result.id (IsNear (copy_at d) c.copies.result.now space lo hi) (λ from. CanMove c.args.self.now from to lo hi)
+    if_some_map c.near.result.id (IsNear (copy_at d) c.copies.result.now space lo hi) (λ from. CanMove c.args.self.now from to lo hi)
     (λ from found. subst (λ (x : DirectoryView). CanMove x from to lo hi) c.self.view_is
     (move-of-source d s space to lo hi from c.self.invariant c.near.ensures.above home there
     (reaches_less (copy_at d to) lo hi c.args.run.hi c.near.ensures.below reaches)
@@ -44,7 +45,7 @@ returns-in-Some-clause-source g c =
     let ids : copies_in (store_at d s) ≡ c.copies.result.now = ap copies_in (sym c.in-Some.ensures.value) ∙ sym c.copies.ensures in
     let here : copy_at d to ≡ Some c.unwrap.result.now = search rules in
     let lies : LiesIn space (copy_at d to) = subst (λ (o : Option Held). LiesIn space o) (sym here) refl in
-    if-some-map c.near.result.id (IsNear (copy_at d) c.copies.result.now space lo hi) (λ from. IsSourceAt c.args.self.now from to lo hi)
+    if_some_map c.near.result.id (IsNear (copy_at d) c.copies.result.now space lo hi) (λ from. IsSourceAt c.args.self.now from to lo hi)
     (λ from found. subst (λ (x : DirectoryView). IsSourceAt x from to lo hi) c.self.view_is
     (source-of d s space to lo hi from c.self.invariant home lies (inl (subst (λ (l : List ℕ). IsNear (copy_at d) l space lo hi from) (sym ids) found))))
     c.near.ensures.found
@@ -56,8 +57,8 @@ returns-in-Some-clause-near g c =
     let space = c.unwrap.result.now.space in
     let here : copy_at d to ≡ Some c.unwrap.result.now = search rules in
     let mine : IsIn space (copy_at d to) = subst (λ (o : Option Held). IsIn space o) (sym here) refl in
-    if-some-map c.near.result.id (IsNear (copy_at d) c.copies.result.now space c.args.run.lo c.near.result.hi) (λ from. IsClose c.args.self.now from to)
-    (λ from found. subst (λ (x : DirectoryView). IsClose x from to) c.self.view_is (inr (space, lies-in (copy_at d from) space found.lies, mine)))
+    if_some_map c.near.result.id (IsNear (copy_at d) c.copies.result.now space c.args.run.lo c.near.result.hi) (λ from. LieTogether (copy_at c.args.self.now from) (copy_at c.args.self.now to))
+    (λ from found. subst (λ (x : DirectoryView). LieTogether (copy_at x from) (copy_at x to)) c.self.view_is (space, lies-in (copy_at d from) space found.lies, mine))
     c.near.ensures.found
 
 pub returns-in-Some-clause-none : goal.returns-in-Some-clause-none

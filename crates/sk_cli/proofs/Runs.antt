@@ -5,6 +5,7 @@ use Rattle.std.proofs.Math.Seq.{take-length}
 use Rattle.std.specs.Io.KnownBytes.{Appends}
 use Rattle.sk_cli.specs.Answer.{Answer, Gives, IsAnswerToBytes, IsOfRun, IsWantWith, Took, Told, TookPrefix, ended_line, ended_status, ran_alone, statement_limit}
 use Rattle.sk_cli.specs.Sources.{Read, Spells, SpellsTyped, source_limit}
+use Rattle.sk_grammar.specs.Limits.{IsFromTextWithin}
 use Rattle.sk_host.specs.Outcomes.{HasEnded, told_as}
 use Rattle.sk_host.specs.declared.outcome.Outcome.{Outcome}
 use Rattle.sk_host.specs.declared.outcome.Outcome.TheVariants as outcome
@@ -16,7 +17,6 @@ use Rattle.sk_main_run.specs.MainRun.{run_of_program}
 use Rattle.sk_outside.specs.Holding.{SinkHolding}
 use Rattle.sk_tree.specs.declared.declared.Declared.{Declared}
 use Rattle.sk_tree.specs.declared.tree.Program.{Program}
-use Rattle.sk_typed_laws.specs.Forms.{IsFromTextWithin}
 use Rattle.sk_vector_laws.specs.Vectors.{IsRunnable}
 use Rattle.sk_world.specs.Runs.{ProgramRun}
 use Rattle.sk_world.specs.World.{Ending, End, Trapped, Bound}

@@ -1,6 +1,6 @@
 ghost use Rattle.std.specs.Prelude.{◌≡◌, true, IfOk};
-ghost use Rattle.sk_main_scheme.specs.Objects.{StandsFor, bare_of, object_of};
-ghost use Rattle.sk_typed_laws.specs.Forms.{IsFromTextWithin};
+ghost use Rattle.sk_grammar.specs.Limits.{IsFromTextWithin};
+ghost use Rattle.sk_main_scheme.specs.Objects.{StandsFor, unmarked_of, object_of};
 ghost use Rattle.sk_typing.specs.Typing.{IsTyped};
 ghost use Rattle.sk_vector_form.specs.VectorForm.{has_vector_form};
 ghost use Rattle.sk_vector_laws.specs.Vectors.{IsRunnable};
@@ -18,7 +18,7 @@ use std::alloc::{AllocError, Global};
 /// Want of memory, which is also the answer where a code has 2^32 instructions, slots or values on its stack, or where there
 /// are 2^32 containers or instances, or a declaration's number of elements is 2^32, or more.
 pub fn compile(alloc: Global, program: &Program) -> Result<Object, AllocError>
-    ensures object { IfOk result (λ object. object ≡ bare_of (object_of program.now)) }
+    ensures object { IfOk result (λ object. object ≡ unmarked_of (object_of program.now)) }
     ensures stands { IfOk result (λ object. StandsFor object program.now) }
     // A program of vectors that a text has, and that keeps the rules of names and types, is run by its compiled form.
     ensures runs { IsTyped program.now → IsFromTextWithin program.now → has_vector_form program.now ≡ true

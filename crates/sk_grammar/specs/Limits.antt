@@ -2,7 +2,8 @@
 --
 -- They are stated on spellings of whole programs. Each part of one stands for a stretch of tokens, and what is open at a
 -- token is what stands round it: in `-a + b` the prefix is open at `-` and at `a`.
-use Rattle.std.specs.Prelude.{◌≡◌, ℕ, zero, suc, ◌+◌, ◌≤◌, List, [], ◌∷◌, length}
+use Rattle.std.specs.Prelude.{◌≡◌, ℕ, zero, suc, ◌+◌, ◌≤◌, List, [], ◌∷◌, length, Ok}
+use Rattle.sk_tokens.specs.Tokens.{tokens_of}
 use Rattle.sk_tokens.specs.declared.token.Token.{Token}
 use Rattle.sk_tree.specs.declared.tree.Program.{Program}
 use Rattle.sk_grammar.specs.ExpressionSpelling.{Expression, Arguments, each}
@@ -184,3 +185,10 @@ pub record ReadsWithin (tokens : List Token) (program : Program) : Type 0 where
   pub tokens_are : tokens_in spelling ≡ tokens
   pub program_is : program_in spelling ≡ program
   pub keeps : KeepsLimits spelling
+
+-- a text has tokens that read as this program, by a spelling that keeps the limits
+pub record IsFromTextWithin (program : Program) : Type 0 where
+  pub text : List ℕ
+  pub tokens : List Token
+  pub lexed : tokens_of text ≡ Ok tokens
+  pub reads : ReadsWithin tokens program

@@ -23,7 +23,7 @@ use Rattle.sk_isa.specs.declared.object.Plan.{Plan}
 use Rattle.sk_isa.specs.declared.object.Signature.{Signature}
 use Rattle.sk_isa_laws.proofs.Steps.{left_if_so}
 use Rattle.sk_isa_laws.proofs.TypedLists.{typed-length}
-use Rattle.sk_main_code.specs.CallShapes.{Container as Kinded, fits_value, may_be_set}
+use Rattle.sk_call_shapes.specs.CallShapes.{Container as Kinded, fits_value, may_be_set}
 use Rattle.sk_main_code.specs.MainSoundness.{is_declared, is_so, left_in_main, left_of_main, names_in_main, used_by}
 use Rattle.sk_main_code.specs.MainSteps.{MainPoint}
 use Rattle.sk_main_code.specs.Sound.{IsSound}

@@ -17,7 +17,7 @@ use Rattle.sk_isa.specs.Soundness.{is_scalar}
 use Rattle.sk_isa.specs.declared.code.Instr.TheVariants.{Do}
 use Rattle.sk_isa.specs.declared.object.Object.{Object}
 use Rattle.sk_isa.specs.declared.object.Plan.{Plan}
-use Rattle.sk_main_code.specs.CallShapes.{Container as Kinded, common_kind, uniform_count, wanted_by_statement, wanted_elements, wanted_whole, wanting}
+use Rattle.sk_call_shapes.specs.CallShapes.{Container as Kinded, common_kind, uniform_count, wanted_by_statement, wanted_elements, wanted_whole, wanting}
 use Rattle.sk_main_code.specs.MainSteps.{MainPoint}
 use Rattle.sk_main_code.specs.Sound.{IsSound}
 use Rattle.sk_main_laws.proofs.CallWorlds.{first_there, plan_sound}

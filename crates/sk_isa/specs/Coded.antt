@@ -1,5 +1,6 @@
 -- What compiled functions compute, one instruction after another.
 use Rattle.std.specs.Prelude.{ℕ, zero, suc, ◌-◌, ◌*◌, ◌^◌, List, [], ◌∷◌, ◌++◌, length, map, replicate, ℤ, pos, Option, Some, None, Result, Ok, Err, slice_get}
+use Rattle.sk_base.specs.Arithmetic.{op_of}
 use Rattle.sk_base.specs.declared.number.Trap.{Trap}
 use Rattle.sk_base.specs.declared.number.Trap.TheVariants.{Turns}
 use Rattle.sk_meaning.specs.Evaluation.{Argument, Value, field_of, element_at, number_in}
@@ -55,7 +56,7 @@ function_next routine instr point = Stuck
 
 -- what an instruction of a function leads to
 abbrev pub next_of : Routine → Instr → Point → Next
-next_of routine = next_by by_trap (function_next routine)
+next_of routine = next_by op_of by_trap (function_next routine)
 
 -- the outcome from a point on, after at most that many instructions
 abbrev pub outcome_of : Routine → (steps : ℕ) → Point → Outcome ℕ Trap

@@ -1,11 +1,11 @@
 -- How the instructions that functions and main share change a configuration, one after another. What a run keeps beside its
--- stack and slots is open here: functions keep their turns, and main keeps the world; so is how a run may stop, and what
--- the other instructions do.
+-- stack and slots is open here: functions keep their turns, and main keeps the world; so are the values of operators, how a
+-- run may stop, and what the other instructions do.
 use Rattle.std.specs.Prelude.{ℕ, zero, suc, nat_le, nat_lt, if◌then◌else◌, List, [], ◌∷◌, length, take, drop, reverse, ℤ, Some, None, Result, Ok, Err, slice_get, slice_set}
-use Rattle.sk_base.specs.Arithmetic.{wrapped, op_of}
+use Rattle.sk_base.specs.Arithmetic.{wrapped}
 use Rattle.sk_base.specs.declared.number.Trap.{Trap}
 use Rattle.sk_base.specs.declared.number.Ty.TheVariants.{Int}
-use Rattle.sk_meaning.specs.Expressions.{holds, prefix_of}
+use Rattle.sk_meaning.specs.Expressions.{Arithmetic, holds, prefix_of}
 use Rattle.sk_tree.specs.declared.tree.Un.TheVariants as prefix
 use Rattle.sk_isa.specs.declared.code.Instr.{Instr}
 use Rattle.sk_isa.specs.declared.code.Instr.TheVariants.{Push, Pop, Load, Store, Neg, Inv, Not, Wrap, Binary, Jump, Zero}
@@ -60,21 +60,22 @@ module _ {S F : Type 0} where
       if nat_lt slot (length point.slots)
       then Goes (record point { at = suc point.at; stack = rest; slots = slice_set point.slots slot value }) else Stuck
 
-  -- What an instruction leads to, given how a trap stops the run, and what the instructions do that are not shared.
-  abbrev pub next_by : (stop : Trap → S → F) → (own : Instr → Configuration S → Transition S F) → Instr → Configuration S → Transition S F
-  next_by stop own (Push x) point = going point (x ∷ point.stack)
-  next_by stop own Pop point = with_one point.stack (λ a rest. going point rest)
-  next_by stop own (Load slot) point = elim (slice_get point.slots slot) [ Some value ↦ going point (value ∷ point.stack) | None ↦ Stuck ]
-  next_by stop own (Store slot) point = with_one point.stack (λ a rest. stored point slot a rest)
-  next_by stop own (Neg ty) point = with_one point.stack (λ a rest. going point (prefix_of prefix.Neg ty a ∷ rest))
-  next_by stop own (Inv ty) point = with_one point.stack (λ a rest. going point (prefix_of prefix.Inv ty a ∷ rest))
-  next_by stop own Not point = with_one point.stack (λ a rest. going point (prefix_of prefix.Not Int a ∷ rest))
-  next_by stop own Wrap point = with_one point.stack (λ a rest. going point (wrapped Int a ∷ rest))
-  next_by stop own (Binary op ty) point = with_two point.stack (λ a b rest. giving stop point rest (op_of op ty a b))
-  next_by stop own (Jump to) point = Goes (record point { at = to })
-  next_by stop own (Zero to) point = with_one point.stack (λ a rest.
+  -- What an instruction leads to, given the values of operators, how a trap stops the run, and what the instructions do that
+  -- are not shared.
+  abbrev pub next_by : Arithmetic → (stop : Trap → S → F) → (own : Instr → Configuration S → Transition S F) → Instr → Configuration S → Transition S F
+  next_by arithmetic stop own (Push x) point = going point (x ∷ point.stack)
+  next_by arithmetic stop own Pop point = with_one point.stack (λ a rest. going point rest)
+  next_by arithmetic stop own (Load slot) point = elim (slice_get point.slots slot) [ Some value ↦ going point (value ∷ point.stack) | None ↦ Stuck ]
+  next_by arithmetic stop own (Store slot) point = with_one point.stack (λ a rest. stored point slot a rest)
+  next_by arithmetic stop own (Neg ty) point = with_one point.stack (λ a rest. going point (prefix_of prefix.Neg ty a ∷ rest))
+  next_by arithmetic stop own (Inv ty) point = with_one point.stack (λ a rest. going point (prefix_of prefix.Inv ty a ∷ rest))
+  next_by arithmetic stop own Not point = with_one point.stack (λ a rest. going point (prefix_of prefix.Not Int a ∷ rest))
+  next_by arithmetic stop own Wrap point = with_one point.stack (λ a rest. going point (wrapped Int a ∷ rest))
+  next_by arithmetic stop own (Binary op ty) point = with_two point.stack (λ a b rest. giving stop point rest (arithmetic op ty a b))
+  next_by arithmetic stop own (Jump to) point = Goes (record point { at = to })
+  next_by arithmetic stop own (Zero to) point = with_one point.stack (λ a rest.
       Goes (record point { at = if holds a then suc point.at else to; stack = rest }))
-  next_by stop own instr point = own instr point
+  next_by arithmetic stop own instr point = own instr point
 
 -- how far a run has come
 pub data Outcome (S F : Type 0) : Type 0 where

@@ -1,5 +1,8 @@
 -- By which variants the calls of an instance may be run.
 use Rattle.std.specs.Prelude.{ℕ, Bool, true, false, ◌&&◌, ◌==◌, if◌then◌else◌, List, [], ◌∷◌, ◌++◌, is_some}
+use Rattle.std.specs.List.{list_any}
+use denote.Enum.Bare.{sameb}
+use Rattle.sk_base.specs.contracts.choice.Variant as variants
 use Rattle.sk_base.specs.declared.choice.Variant.{Variant}
 use Rattle.sk_base.specs.declared.choice.Variant.TheVariants.{Sequential, Chunked, Cluster, Lanes}
 use Rattle.sk_tree.specs.declared.tree.Skeleton.TheVariants.{Map, Reduce, Scan, MapReduce, MapOverlap, MapPairs, MapPairsReduce, Call}
@@ -37,15 +40,22 @@ has_lanes object plan = elim plan.skeleton [
   | Call ↦ false
 ]
 
--- a variant may run the instance's calls
+-- a variant may run the instance's calls, by the marks of its functions
 abbrev pub offers : Object → Plan → Variant → Bool
 offers object plan Sequential = true
 offers object plan Chunked = has_parts object plan
 offers object plan Cluster = has_parts object plan
 offers object plan Lanes = has_lanes object plan
 
--- the variants that may run the instance's calls, in the order in which they are listed
+-- the variants that may run the instance's calls by these marks, in the order in which they are listed
 abbrev pub offers_of : Object → Plan → List Variant
 offers_of object plan =
     Sequential ∷ (if has_parts object plan then Chunked ∷ Cluster ∷ [] else [])
     ++ (if has_lanes object plan then Lanes ∷ [] else [])
+
+unfoldable pub same_variant : Variant → Variant → Bool
+same_variant = sameb variants.the_type
+
+-- the instance offers a variant: its plan lists it
+abbrev pub is_offered : Plan → Variant → Bool
+is_offered plan variant = list_any (λ offered. same_variant offered variant) plan.variants

@@ -1,4 +1,3 @@
-pub mod CallShapes
 pub mod Inputs
 pub mod MainSoundness
 pub mod MainSteps

@@ -10,7 +10,7 @@ use Rattle.sk_isa.specs.declared.code.Instr.TheVariants.{Size, Item, Call, Count
 use Rattle.sk_isa.specs.declared.object.Object.{Object}
 use Rattle.sk_isa.specs.declared.object.Plan.{Plan}
 use Rattle.sk_isa.specs.declared.object.Signature.{Signature}
-use Rattle.sk_main_code.specs.CallShapes.{Container, fits_statement, fits_value, uniform_count, may_be_set}
+use Rattle.sk_call_shapes.specs.CallShapes.{Container, fits_statement, fits_value, uniform_count, may_be_set}
 use Rattle.sk_names.specs.Bytes.{same_bytes}
 use Rattle.sk_tree.specs.Parameters.{is_container_method, same_type}
 use Rattle.sk_tree.specs.declared.declared.Declared.{Declared}

@@ -2,6 +2,7 @@
 use Rattle.std.specs.Prelude.{ℕ, suc, List, [], ◌∷◌, length, map, take, replicate, ℤ, pos, Bool, true, false, Option, Some, None, Result, Ok, Err, slice_get, slice_index_or, codes}
 use Rattle.std.specs.Fmt.{signed_decimal}
 use Rattle.std.specs.List.{list_all}
+use Rattle.sk_base.specs.Arithmetic.{op_of}
 use Rattle.sk_base.specs.declared.choice.EdgeMode.TheVariants as edge
 use Rattle.sk_base.specs.declared.number.Trap.{Trap}
 use Rattle.sk_grammar.specs.Signs.{meant_by}
@@ -132,7 +133,7 @@ over_by trap world = record { ending = Trapped trap world.line 0; world = world 
 
 -- what an instruction of main leads to
 abbrev pub next_in_main : Object → Instr → MainPoint → MainNext
-next_in_main object = next_by over_by (main_next object)
+next_in_main object = next_by op_of over_by (main_next object)
 
 abbrev pub main_start : Object → List Input → (bound : ℕ) → MainPoint
 main_start object inputs bound =

@@ -9,9 +9,9 @@ use Rattle.sk_isa.specs.declared.code.Instr.TheVariants as instr
 use Rattle.sk_isa.specs.declared.object.Object.{Object}
 use Rattle.sk_isa.specs.declared.object.Plan.{Plan}
 use Rattle.sk_isa.specs.declared.object.Signature.{Signature}
-use Rattle.sk_main_scheme.proofs.BareObjects.{bare_is, main_of}
+use Rattle.sk_main_scheme.proofs.UnmarkedObjects.{unmarked_is, main_of}
 use Rattle.sk_main_scheme.specs.MainScheme.{Around, Emitting, Emitted, Standing, emitting_of, all_emitted, then_emitted, only_code, main_emitted}
-use Rattle.sk_main_scheme.specs.Objects.{bare_of, object_of}
+use Rattle.sk_main_scheme.specs.Objects.{unmarked_of, object_of}
 use Rattle.sk_main_emitter.specs.declared.writer.Writer.{Writer}
 use Rattle.sk_main_emitter.specs.Written.{Writes, IsMain, code_of_main, signature_of_main, standing_of}
 use Rattle.sk_main_emitter.proofs.MainWriters.{Keeps, standing_as, emitted_as, writes_code, writes_then}
@@ -101,8 +101,8 @@ pub object_is : (program : Program) (object : Object)
     → object.inputs ≡ inputs_of program
     → object.containers ≡ (main_of program).behind.containers
     → object.names ≡ map (λ function. function.name) (functions_before_main program)
-    → object ≡ bare_of (object_of program)
+    → object ≡ unmarked_of (object_of program)
 object_is program object e1 e2 e3 e4 e5 e6 e7 e8 e9 =
     made-same object.functions _ object.signatures _ object.safe _ object.operators _ object.instances _ object.main _ object.inputs _
     object.containers _ object.names _ e1 e2 e3 e4 e5 e6 e7 e8 e9
-    ∙ sym (bare_is program)
+    ∙ sym (unmarked_is program)

@@ -2,7 +2,7 @@ ghost use Rattle.std.specs.Prelude.{◌≡◌, ◌++◌, ◌∷◌, [], length, 
 ghost use Rattle.sk_base.specs.declared.number.Ty.TheVariants.{Int};
 ghost use Rattle.sk_main_emitter.specs.Written.{IsMain, code_of_main, signature_of_main};
 ghost use Rattle.sk_main_scheme.specs.MainScheme as scheme;
-ghost use Rattle.sk_main_scheme.specs.Objects.{bare_of, object_of};
+ghost use Rattle.sk_main_scheme.specs.Objects.{unmarked_of, object_of};
 ghost use Rattle.sk_scheme.specs.Plans as plans;
 ghost use Rattle.sk_scheme.specs.Scheme.{codes_of, known_functions, signatures_of};
 ghost use Rattle.sk_typing.specs.Typing.{inputs_of};
@@ -311,7 +311,7 @@ fn before_main(program: &Program) -> &[Function]
 /// Want of memory, which is also the answer where a code has 2^32 instructions, slots or values on its stack, or where there
 /// are 2^32 containers or instances, or a declaration's number of elements is 2^32, or more.
 pub fn compile(alloc: Global, program: &Program) -> Result<Object, AllocError>
-    ensures { IfOk result (λ object. object ≡ bare_of (object_of program.now)) }
+    ensures { IfOk result (λ object. object ≡ unmarked_of (object_of program.now)) }
 {
     let functions = before_main(program);
     let statements = body(program.functions.as_slice(), functions.len());

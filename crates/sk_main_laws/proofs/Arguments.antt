@@ -13,7 +13,7 @@ use Rattle.sk_base.specs.declared.number.Trap.TheVariants.{Index as OutOfRange}
 use Rattle.sk_base.specs.declared.number.Ty.{Ty}
 use Rattle.sk_base.specs.declared.number.Ty.TheVariants.{Int}
 use Rattle.sk_isa.specs.Soundness.{IsOfType, SuitParams, SuitsParam, is_dimension}
-use Rattle.sk_main_code.specs.CallShapes.{Wanted, wanted_whole, wanting}
+use Rattle.sk_call_shapes.specs.CallShapes.{Wanted, wanted_whole, wanting}
 use Rattle.sk_main_laws.proofs.CallWorlds.{wanted_cell}
 use Rattle.sk_main_laws.specs.Calls.{AreAsWanted}
 use Rattle.sk_meaning.specs.Evaluation.{Place}

@@ -19,7 +19,7 @@ use Rattle.sk_isa.specs.declared.object.Plan.{Plan}
 use Rattle.sk_isa.specs.declared.object.Signature.{Signature}
 use Rattle.sk_isa_laws.proofs.Callees as callees
 use Rattle.sk_isa_laws.proofs.Values.{zero-in_range}
-use Rattle.sk_main_code.specs.CallShapes.{Container as Kinded, Wanted, are_wanted, is_wanted}
+use Rattle.sk_call_shapes.specs.CallShapes.{Container as Kinded, Wanted, are_wanted, is_wanted}
 use Rattle.sk_main_code.specs.MainSoundness.{container_of, containers_of}
 use Rattle.sk_main_laws.proofs.Inputs.{same_type-true}
 use Rattle.sk_main_laws.proofs.Doings.{invoked-of_type}

@@ -19,7 +19,7 @@ use Rattle.sk_isa.specs.declared.object.Object.{Object}
 use Rattle.sk_isa.specs.declared.object.Plan.{Plan}
 use Rattle.sk_isa.specs.declared.object.Signature.{Signature}
 use Rattle.sk_isa_laws.proofs.Values.{zero-in_range}
-use Rattle.sk_main_code.specs.CallShapes.{Container as Kinded, Wanted, are_wanted, common_kind, fits, wanted_elements, wanted_whole, wanting}
+use Rattle.sk_call_shapes.specs.CallShapes.{Container as Kinded, Wanted, are_wanted, common_kind, fits, wanted_elements, wanted_whole, wanting}
 use Rattle.sk_main_code.specs.MainSoundness.{containers_of}
 use Rattle.sk_main_code.specs.MainSteps.{linked_plan}
 use Rattle.sk_main_laws.proofs.Arguments.{region_in_order, wanted_for, whole_alone}

@@ -17,7 +17,7 @@ use Rattle.sk_isa.specs.declared.object.Signature.{Signature}
 use Rattle.sk_isa_laws.proofs.Callees.{functions_have_values}
 use Rattle.sk_isa_laws.proofs.Callees as callees
 use Rattle.sk_isa_laws.specs.Steps.{IsGiven}
-use Rattle.sk_main_code.specs.CallShapes.{fits}
+use Rattle.sk_call_shapes.specs.CallShapes.{fits}
 use Rattle.sk_main_code.specs.MainSteps.{linked_plan, world_after}
 use Rattle.sk_main_laws.proofs.Settings.{fine_setting, setting_fits}
 use Rattle.sk_main_laws.proofs.Steps.{IsFineAfter, as_many}

@@ -20,7 +20,7 @@ use Rattle.sk_isa_laws.proofs.Steps.{left_if_so, scalar_so}
 use Rattle.sk_isa_laws.proofs.TypedLists.{typed-length, typed-reverse, typed-take, typed_arguments}
 use Rattle.sk_isa_laws.proofs.Values.{served}
 use Rattle.sk_kernel.specs.Kernels.{AreOfTypes}
-use Rattle.sk_main_code.specs.CallShapes.{Container as Kinded, Wanted, fits, fits_statement, fits_value}
+use Rattle.sk_call_shapes.specs.CallShapes.{Container as Kinded, Wanted, fits, fits_statement, fits_value}
 use Rattle.sk_main_code.specs.MainSoundness.{given_in_main, is_declared, is_so, left_in_main, left_of_main, main_scalar, main_signature, made_by, names_in_main, names_of_main, taken_in_main, used_by}
 use Rattle.sk_main_code.specs.MainSteps.{MainNext, MainPoint, next_in_main}
 use Rattle.sk_main_code.specs.Sound.{IsSound}

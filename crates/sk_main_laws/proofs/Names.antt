@@ -9,7 +9,7 @@ use Rattle.sk_isa.specs.declared.object.Object.{Object}
 use Rattle.sk_isa.specs.declared.object.Plan.{Plan}
 use Rattle.sk_isa.specs.declared.object.Signature.{Signature}
 use Rattle.sk_isa_laws.proofs.Steps.{left_if_so}
-use Rattle.sk_main_code.specs.CallShapes.{Container as Kinded, fits, fits_statement, uniform_count, wanted_whole, wanting}
+use Rattle.sk_call_shapes.specs.CallShapes.{Container as Kinded, fits, fits_statement, uniform_count, wanted_whole, wanting}
 use Rattle.sk_main_code.specs.MainSoundness.{calls_fit, containers_of, is_declared}
 use Rattle.sk_main_laws.specs.Calls.{first_of}
 use Rattle.sk_tree.specs.Parameters.{region_of}

@@ -8,7 +8,7 @@ use Rattle.sk_arguments.specs.Places.{coordinates_of}
 use Rattle.sk_base.specs.Shape.{IsShape, cells_of}
 use Rattle.sk_base.specs.declared.number.Ty.{Ty}
 use Rattle.sk_isa.specs.Soundness.{SuitsParam}
-use Rattle.sk_main_code.specs.CallShapes.{Container as Kinded, Wanted, common_kind, wanted_elements, wanted_whole, wanting}
+use Rattle.sk_call_shapes.specs.CallShapes.{Container as Kinded, Wanted, common_kind, wanted_elements, wanted_whole, wanting}
 use Rattle.sk_main_laws.proofs.Arguments.{wanted_for, wanted_in_order}
 use Rattle.sk_main_laws.proofs.Skeletons.{index_in}
 use Rattle.sk_main_laws.specs.Calls.{AreAsWanted}

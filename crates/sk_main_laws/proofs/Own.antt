@@ -18,7 +18,7 @@ use Rattle.sk_isa.specs.declared.object.Signature.{Signature}
 use Rattle.sk_isa_laws.proofs.Steps.{left_if_so, pushed}
 use Rattle.sk_isa_laws.proofs.TypedLists.{typed_arguments}
 use Rattle.sk_kernel.specs.Kernels.{AreOfTypes}
-use Rattle.sk_main_code.specs.CallShapes.{Container as Kinded, fits, fits_statement, fits_value, may_be_set}
+use Rattle.sk_call_shapes.specs.CallShapes.{Container as Kinded, fits, fits_statement, fits_value, may_be_set}
 use Rattle.sk_main_code.specs.MainSoundness.{containers_of, given_in_main, is_declared, is_input, is_so, left_in_main, lives_after, main_signature, names_of_main, used_by}
 use Rattle.sk_main_code.specs.MainSteps.{MainNext, MainPoint, done_by, going_in, last_of, linked_plan, next_in_main, set_by, setting_of, world_after}
 use Rattle.sk_main_laws.proofs.Doings.{after_fine, invoked-of_type, make_fine, poke_fine, read_fine, set_fine, valued-fine}

@@ -9,7 +9,7 @@ use Rattle.sk_grammar.specs.Signs.{meant_by}
 use Rattle.sk_isa.specs.declared.object.Object.{Object}
 use Rattle.sk_isa.specs.declared.object.Plan.{Plan}
 use Rattle.sk_isa.specs.declared.object.Signature.{Signature}
-use Rattle.sk_main_code.specs.CallShapes.{are_overlaps, is_one_of, may_be_set}
+use Rattle.sk_call_shapes.specs.CallShapes.{are_overlaps, is_one_of, may_be_set}
 use Rattle.sk_main_code.specs.MainSteps.{linked_plan, mode_words, setting_of, setting_words}
 use Rattle.sk_main_laws.specs.FineWorlds.{AreInRange, IsFineWorld}
 use Rattle.sk_names.specs.Bytes.{same_bytes}

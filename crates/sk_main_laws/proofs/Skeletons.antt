@@ -17,7 +17,7 @@ use Rattle.sk_isa.specs.declared.object.Object.{Object}
 use Rattle.sk_isa.specs.declared.object.Plan.{Plan}
 use Rattle.sk_isa.specs.declared.object.Signature.{Signature}
 use Rattle.sk_isa_laws.proofs.Callees as callees
-use Rattle.sk_main_code.specs.CallShapes.{Wanted, fits}
+use Rattle.sk_call_shapes.specs.CallShapes.{Wanted, fits}
 use Rattle.sk_main_code.specs.MainSteps.{linked_plan}
 use Rattle.sk_main_laws.proofs.Arguments.{IsPlaced, SuitsOperand, SuitsPlace, arguments_suit, coordinates_small, operand_suits, placed, wanted_for}
 use Rattle.sk_main_laws.proofs.CallWorlds.{first_there, value-of_type}

@@ -7,7 +7,7 @@ use Rattle.sk_isa.specs.Objects.{function_at, signature_at}
 use Rattle.sk_isa.specs.declared.object.Object.{Object}
 use Rattle.sk_isa.specs.declared.object.Plan.{Plan}
 use Rattle.sk_isa.specs.declared.object.Signature.{Signature}
-use Rattle.sk_main_code.specs.CallShapes.{Container as Kinded, Wanted, fits, uniform_count, wanted_by_statement, wanted_by_value}
+use Rattle.sk_call_shapes.specs.CallShapes.{Container as Kinded, Wanted, fits, uniform_count, wanted_by_statement, wanted_by_value}
 use Rattle.sk_main_code.specs.MainSoundness.{containers_of}
 use Rattle.sk_main_code.specs.MainSteps.{MainPoint, linked_plan}
 use Rattle.sk_main_laws.specs.FineWorlds.{IsFineWorld}

@@ -1,5 +1,7 @@
 -- Laws of sound objects' main.
 use Rattle.std.specs.Prelude.{◌≡◌, ℕ, ◌^◌, ◌<◌, ◌≤◌, Bool, List, length, All, ℤ, Option, Some, None, Result, Err, IsSomeAnd, slice_get}
+use Rattle.sk_arguments.specs.Arguments.{Given}
+use Rattle.sk_functions.specs.Functions.{functions_by}
 use Rattle.sk_isa.specs.Coded.{step_limit}
 use Rattle.sk_isa.specs.Configurations.{Ended, Outcome, run_of}
 use Rattle.sk_isa.specs.SoundObjects.{HasSoundFunctions}
@@ -8,8 +10,9 @@ use Rattle.sk_isa.specs.declared.code.Instr.{Instr}
 use Rattle.sk_isa.specs.declared.code.Instr.TheVariants.{Count, Do, Get}
 use Rattle.sk_isa.specs.declared.object.Object.{Object}
 use Rattle.sk_isa.specs.declared.object.Plan.{Plan}
+use Rattle.sk_kernel.specs.Instances.{instance_meaning}
 use Rattle.sk_main_code.specs.MainSoundness.{IsSoundMain}
-use Rattle.sk_main_code.specs.MainSteps.{MainPoint, coded_of, main_start, next_in_main}
+use Rattle.sk_main_code.specs.MainSteps.{MainPoint, coded_of, linked_plan, main_start, next_in_main}
 use Rattle.sk_main_code.specs.Sound.{IsSound}
 use Rattle.sk_main_laws.specs.Calls.{AreAsWanted, HasFineCalls, IsCalled, MakesCall, first_of, given_to_call, wanted_by_call}
 use Rattle.sk_main_laws.specs.FinePoints.{IsFineEnd, IsFineNext, IsFinePoint, IsFineStep}
@@ -17,7 +20,8 @@ use Rattle.sk_main_code.specs.Inputs.{AnswerAll}
 use Rattle.sk_main_laws.specs.FineWorlds.{IsFineWorld}
 use Rattle.sk_main_laws.specs.Finds.{Finds}
 use Rattle.sk_main_laws.specs.Ranks.{main_rank, measure_of}
-use Rattle.sk_world.specs.Calls.{operands_in}
+use Rattle.sk_tree.specs.declared.settings.Settings.{Settings}
+use Rattle.sk_world.specs.Calls.{functions_of, operands_in}
 use Rattle.sk_world.specs.Runs.{run_over}
 use Rattle.sk_world.specs.World.{Input, Over, World}
 
@@ -102,3 +106,9 @@ abbrev pub MainEnds : Type 0
 MainEnds =
     (object : Object) → IsSound object → (inputs : List Input) → AnswerAll object.inputs inputs → (bound : ℕ)
     → RunEnds object inputs bound
+
+-- The functions with which main's run computes a call of an instance are those of the instance's meaning.
+abbrev pub InstancesComputeByTheirMeaning : Type 0
+InstancesComputeByTheirMeaning =
+    (object : Object) (number : ℕ) (plan : Plan) (settings : Settings) (given : Given)
+    → functions_of (linked_plan object number plan) settings given ≡ functions_by (instance_meaning object plan settings) given

@@ -3,7 +3,7 @@ ghost use Rattle.sk_isa.specs.Soundness.{LoopsPass};
 ghost use Rattle.sk_isa.specs.declared.code.Instr.{Instr};
 ghost use Rattle.sk_main_code.specs.MainSoundness.{IsCount};
 ghost use Rattle.sk_main_laws.specs.Running.{MainRuns};
-ghost use Rattle.sk_main_laws.specs.Laws.{MainBeginsFine, MainEnds, MainFinds, MainIsNeverStuck, MeasureFalls, RanksFall, CallsAreFine, CallsAreGiven, CallsAreMade};
+ghost use Rattle.sk_main_laws.specs.Laws.{MainBeginsFine, MainEnds, MainFinds, MainIsNeverStuck, MeasureFalls, RanksFall, CallsAreFine, CallsAreGiven, CallsAreMade, InstancesComputeByTheirMeaning};
 
 /// A law: where all loops count statements, steps that count none come to an end.
 pub fn main_ranks_fall()
@@ -48,6 +48,11 @@ pub fn main_calls_are_given()
 /// A law: the calls of sound instances leave fine worlds.
 pub fn main_calls_are_fine()
     ensures { CallsAreFine }
+{}
+
+/// A law: main's run computes a call with the functions of the instance's meaning.
+pub fn instances_compute_by_their_meaning()
+    ensures { InstancesComputeByTheirMeaning }
 {}
 
 /// A law: from its start on main goes on as a run whose end is the meaning of the object, and each step leaves less of it.

@@ -1,6 +1,6 @@
 -- When the run of a compiled program is that of its source.
 use Rattle.std.specs.Prelude.{◌≡◌, ℕ, Bool, List}
-use Rattle.sk_grammar.specs.Grammar.{IsFromText}
+use Rattle.sk_grammar.specs.Limits.{IsFromTextWithin}
 use Rattle.sk_isa.specs.declared.object.Object.{Object}
 use Rattle.sk_main_code.specs.Inputs.{AnswerAll}
 use Rattle.sk_main_code.specs.MainSteps.{coded_of}
@@ -24,9 +24,9 @@ RunsAs object program =
     (inputs : List Input) → AnswerAll object.inputs inputs → (bound : ℕ) (dump : Bool)
     → IsSameRun (coded_of object inputs bound dump) (run_of_program program inputs bound dump)
 
--- a text has the program, which keeps the rules of names and types
+-- a text has the program within the limits, and it keeps the rules of names and types
 pub record IsProgram (program : Program) : Type 0 where
-  pub from_text : IsFromText program
+  pub from_text : IsFromTextWithin program
   pub typed : IsTyped program
 
 -- each object that stands for a program runs as the program

@@ -12,7 +12,7 @@ use Rattle.sk_isa.specs.declared.code.Instr.TheVariants as instr
 use Rattle.sk_isa.specs.declared.object.Object.{Object}
 use Rattle.sk_isa.specs.declared.object.Plan.{Plan}
 use Rattle.sk_isa.specs.declared.object.Signature.{Signature}
-use Rattle.sk_main_code.specs.CallShapes.{Container, Wanted, are_wanted, common_kind, fits_statement, uniform_count, wanted_whole, wanting}
+use Rattle.sk_call_shapes.specs.CallShapes.{Container, Wanted, are_wanted, common_kind, fits_statement, uniform_count, wanted_whole, wanting}
 use Rattle.sk_main_code.specs.MainSoundness.{calls_fit, container_of, containers_of as given_by}
 use Rattle.sk_main_fits.specs.Fits.{all_fit, fits}
 use Rattle.sk_main_fits.specs.StatementFits.{all_whole, call_fits, container_types, judge_step, names_whole}

@@ -1,5 +1,6 @@
 -- What names mean in main.
 use Rattle.std.specs.Prelude.{ℕ, List, map, take, drop, ℤ, pos, Option, Some, None, Result, Ok, Err}
+use Rattle.sk_base.specs.Arithmetic.{op_of}
 use Rattle.sk_base.specs.declared.number.Ty.{Ty}
 use Rattle.sk_base.specs.declared.number.Ty.TheVariants.{Int}
 use Rattle.sk_meaning.specs.Evaluation.{Callables, Value, value_of}
@@ -63,6 +64,7 @@ scalar_of None = (Int, pos 0)
 -- what names mean where an expression of main stands
 abbrev pub main_names : State → Names World Over
 main_names state = record {
+  arithmetic = op_of;
   scalar = λ name. scalar_of (bound_to name state.scope);
   field = λ name field. pos 0;
   method = λ name method. size_of (container_at state.world (number_in state.scope name)) method;

@@ -11,7 +11,7 @@ use Rattle.sk_isa.specs.declared.code.Instr.{Instr}
 use Rattle.sk_isa.specs.declared.code.Instr.TheVariants as instr
 use Rattle.sk_isa.specs.declared.object.Object.{Object}
 use Rattle.sk_isa.specs.declared.object.Plan.{Plan}
-use Rattle.sk_main_code.specs.CallShapes.{fits_statement}
+use Rattle.sk_call_shapes.specs.CallShapes.{fits_statement}
 use Rattle.sk_main_code.specs.MainSoundness.{calls_fit, names_in_main}
 use Rattle.sk_main_code.specs.MainSteps.{MainNext, MainPoint, done_by, going_in, linked_plan, next_in_main, world_after}
 use Rattle.sk_main_fits.specs.Fits.{fits, all_fit, is_whole}

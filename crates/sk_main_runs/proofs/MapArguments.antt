@@ -8,7 +8,7 @@ use Rattle.sk_base.specs.ArithmeticLaws.{wrapped-in_range, wrapped-same}
 use Rattle.sk_base.specs.declared.number.Ty.{Ty}
 use Rattle.sk_base.specs.declared.number.Ty.TheVariants.{Int, Long}
 use Rattle.sk_isa.specs.declared.object.Object.{Object}
-use Rattle.sk_main_code.specs.CallShapes as shapes
+use Rattle.sk_call_shapes.specs.CallShapes as shapes
 use Rattle.sk_main_code.specs.MainSoundness.{containers_of, container_of}
 use Rattle.sk_main_runs.proofs.Tidy.{all_at, cells_held, zero-in_range}
 use Rattle.sk_main_runs.specs.SameMeaning.{IsTidy, fitted}

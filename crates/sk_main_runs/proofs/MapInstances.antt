@@ -10,7 +10,7 @@ use Rattle.sk_isa.specs.Objects.{function_at, invoked, is_marked, signature_at}
 use Rattle.sk_isa.specs.declared.object.Object.{Object}
 use Rattle.sk_isa.specs.declared.object.Plan.{Plan}
 use Rattle.sk_isa.specs.declared.object.Signature.{Signature}
-use Rattle.sk_main_code.specs.CallShapes as shapes
+use Rattle.sk_call_shapes.specs.CallShapes as shapes
 use Rattle.sk_main_code.specs.MainSoundness.{calls_fit, containers_of, container_of}
 use Rattle.sk_main_code.specs.MainSteps.{linked_plan}
 use Rattle.sk_main_run.specs.MainRun.{callable_in, linked, no_callable}

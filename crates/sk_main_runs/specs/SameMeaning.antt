@@ -9,7 +9,7 @@ use Rattle.sk_isa.specs.Objects.{signature_at, invoked}
 use Rattle.sk_isa.specs.declared.object.Object.{Object}
 use Rattle.sk_isa.specs.declared.object.Plan.{Plan}
 use Rattle.sk_main_code.specs.MainSoundness.{calls_fit}
-use Rattle.sk_main_code.specs.CallShapes.{fits_statement}
+use Rattle.sk_call_shapes.specs.CallShapes.{fits_statement}
 use Rattle.sk_main_code.specs.MainSteps.{linked_plan}
 use Rattle.sk_main_run.specs.MainNames.{Meant, Scope}
 use Rattle.sk_main_run.specs.MainNames as tree

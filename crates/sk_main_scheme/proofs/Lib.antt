@@ -1,2 +1,2 @@
-pub mod BareObjects
+pub mod UnmarkedObjects
 pub mod Examples

@@ -45,14 +45,14 @@ object_of program =
     })
 
 -- an object without marks and operators, each of whose plans is run sequentially alone
-abbrev pub bare_plan : Plan → Plan
-bare_plan plan = record plan { variants = Sequential ∷ [] }
+abbrev pub unmarked_plan : Plan → Plan
+unmarked_plan plan = record plan { variants = Sequential ∷ [] }
 
-abbrev pub bare_of : Object → Object
-bare_of object = record object {
+abbrev pub unmarked_of : Object → Object
+unmarked_of object = record object {
   safe = map (λ mark. false) object.safe;
   operators = map (λ operator. None) object.operators;
-  instances = map bare_plan object.instances;
+  instances = map unmarked_plan object.instances;
 }
 
 -- a mark may be missing
@@ -100,5 +100,5 @@ pub record StandsFor (object : Object) (program : Program) : Type 0 where
   pub instances : AreSomePlans object.instances (object_of program).instances
 
 -- Without marks, operators and further variants the object of a program stands for it.
-abbrev pub BareObjectsStand : Type 0
-BareObjectsStand = (program : Program) → StandsFor (bare_of (object_of program)) program
+abbrev pub UnmarkedObjectsStand : Type 0
+UnmarkedObjectsStand = (program : Program) → StandsFor (unmarked_of (object_of program)) program

@@ -1,7 +1,7 @@
-ghost use Rattle.sk_main_scheme.specs.Objects.{BareObjectsStand};
+ghost use Rattle.sk_main_scheme.specs.Objects.{UnmarkedObjectsStand};
 
 /// A law: the object of a program without marks and operators, each of whose plans is run sequentially alone, stands for
 /// the program.
-pub fn bare_objects_stand()
-    ensures { BareObjectsStand }
+pub fn unmarked_objects_stand()
+    ensures { UnmarkedObjectsStand }
 {}

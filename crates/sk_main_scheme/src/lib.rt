@@ -3,4 +3,4 @@
 
 mod laws;
 
-pub use laws::bare_objects_stand;
+pub use laws::unmarked_objects_stand;

@@ -5,7 +5,7 @@ use Rattle.sk_base.specs.declared.number.Ty.{Ty}
 use Rattle.sk_base.specs.declared.number.Ty.TheVariants.{Int}
 use Rattle.sk_base.specs.declared.number.Trap.{Trap}
 use Rattle.sk_base.specs.declared.number.Trap.TheVariants.{Turns, Index}
-use Rattle.sk_base.specs.Arithmetic.{wrapped}
+use Rattle.sk_base.specs.Arithmetic.{wrapped, op_of}
 use Rattle.sk_base.specs.Shape.{cells_of, flat_of}
 use Rattle.sk_names.specs.Bindings.{bound_to, rebound}
 use Rattle.sk_meaning.specs.Expressions.{Names, meaning_of, then_do, holds}
@@ -106,6 +106,7 @@ keeping (Err stop) s = Err stop
 -- what names mean in a function: its scalars and parameters, and the functions before it
 abbrev pub names_in : Callables → Scope → Names ℕ Trap
 names_in callables scope = record {
+  arithmetic = op_of;
   scalar = λ name. elim (bound_to name scope) [ Some binding ↦ (kind_type binding.kind, number_in binding.argument) | None ↦ (Int, pos 0) ];
   field = λ name field. elim (bound_to name scope) [ Some binding ↦ field_of binding.argument field | None ↦ pos 0 ];
   method = λ name method. pos 0;

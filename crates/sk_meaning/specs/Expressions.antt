@@ -6,7 +6,7 @@ use Rattle.sk_base.specs.declared.number.Ty.TheVariants.{Int, Long}
 use Rattle.sk_base.specs.declared.number.Op.{Op}
 use Rattle.sk_base.specs.declared.number.Op.TheVariants.{Shl, Shr, Lt, Le, Gt, Ge, Eq, Ne}
 use Rattle.sk_base.specs.declared.number.Trap.{Trap}
-use Rattle.sk_base.specs.Arithmetic.{wrapped, op_of, flag}
+use Rattle.sk_base.specs.Arithmetic.{wrapped, flag}
 use Rattle.sk_tree.specs.declared.tree.Un.{Un}
 use Rattle.sk_tree.specs.declared.tree.Un.TheVariants.{Neg, Inv, Not}
 use Rattle.sk_tree.specs.declared.tree.Expr.{Expr, fold-Expr}
@@ -54,8 +54,13 @@ module _ {S F : Type 0} where
   then_do (Ok done) next = next done.0 done.1
   then_do (Err stop) next = Err stop
 
--- What names mean where an expression stands: S is what a run keeps beside values, and F is how it may stop.
+-- the values of operators: of a type and two numbers the result, or its trap
+abbrev pub Arithmetic : Type 0
+Arithmetic = Op → Ty → ℤ → ℤ → Result ℤ Trap
+
+-- What names and operators mean where an expression stands: S is what a run keeps beside values, and F is how it may stop.
 pub record Names (S F : Type 0) : Type 0 where
+  pub arithmetic : Arithmetic
   -- a scalar's type and value
   pub scalar : List ℕ → Ty × ℤ
   -- `name.field`
@@ -106,7 +111,7 @@ module _ {S F : Type 0} where
     name = [];
     ty = λ names. result_type op (left.ty names) (right.ty names);
     value = λ names s. then_do (left.value names s) (λ a s. then_do (right.value names s) (λ b s.
-        raised names (op_of op (operation_type op (left.ty names) (right.ty names)) a b) s));
+        raised names (names.arithmetic op (operation_type op (left.ty names) (right.ty names)) a b) s));
   }
   meaning_step (Both left right) = record {
     name = [];

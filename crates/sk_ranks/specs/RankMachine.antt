@@ -102,6 +102,11 @@ performed (Send m) phase = record phase { states = slice_set phase.states m InFl
 performed (Deliver m) phase = record phase { states = slice_set phase.states m Delivered }
 performed (Run j) phase = record phase { done = slice_set phase.done j true }
 
+-- a run of the acts of a list, each of which may come when it comes, from a phase to the one behind them
+abbrev pub IsRun : Phase → List Act → Phase → Type 0
+IsRun phase [] behind = phase ≡ behind
+IsRun phase (act ∷ acts) behind = IsEnabled phase act × IsRun (performed act phase) acts behind
+
 -- every message is delivered and every job done
 pub record IsFinished (phase : Phase) : Type 0 where
   pub messages : (m : ℕ) → m < length phase.messages → state_of phase m ≡ Delivered

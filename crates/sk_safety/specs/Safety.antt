@@ -1,6 +1,8 @@
 -- Which functions never trap, by a rule on their trees.
-use Rattle.std.specs.Prelude.{ℕ, ◌+◌, ◌*◌, suc, nat_le, Bool, true, false, not, ◌&&◌, List, [], ◌∷◌, ◌++◌, map, sum, reverse, flat_map, pos, Option, Some, None}
+use Rattle.std.specs.Prelude.{ℕ, ◌+◌, ◌*◌, suc, nat_le, Bool, true, false, not, ◌&&◌, ◌||◌, if◌then◌else◌, List, [], ◌∷◌, ◌++◌, map, sum, reverse, flat_map, pos, Option, Some, None}
 use Rattle.std.specs.List.{list_all, list_any}
+use Rattle.sk_base.specs.Arithmetic.{is_shift}
+use Rattle.sk_base.specs.declared.number.Op.{Op}
 use Rattle.sk_base.specs.declared.number.Op.TheVariants.{Div, Rem}
 use Rattle.sk_base.specs.declared.number.Ty.{Ty}
 use Rattle.sk_base.specs.declared.number.Ty.TheVariants.{Int}
@@ -172,19 +174,33 @@ statements_of function = map walked_of function.body
 abbrev pub places_in : Function → List Place
 places_in function = block_places (statements_of function) (scope_of function.params)
 
--- the divisors in an expression
-abbrev pub divisor_in : Expr-F Expr → List Expr
-divisor_in (Binary Div left right) = right ∷ []
-divisor_in (Binary Rem left right) = right ∷ []
-divisor_in node = []
+-- an operation whose value an arithmetic may refuse by its operands: a division or a shift
+pub record Operation : Type 0 where
+  pub op : Op
+  pub left : Expr
+  pub right : Expr
 
-abbrev pub divisors_of : Expr → List Expr
-divisors_of expr = flat_map (λ part. divisor_in (out-Expr part)) (subexpressions_of expr)
+abbrev pub is_division : Op → Bool
+is_division Div = true
+is_division Rem = true
+is_division op = false
 
--- no divisor in a place's expression may be 0
-abbrev pub divides_safely : Judgements → Place → Bool
-divides_safely earlier place =
-    list_all (λ divisor. not (has (bounded_of divisor (bounds_at earlier place.scope)).interval (pos 0))) (divisors_of place.expr)
+abbrev pub operation_in : Expr-F Expr → List Operation
+operation_in (Binary op left right) = if is_division op || is_shift op then record { op = op; left = left; right = right } ∷ [] else []
+operation_in node = []
+
+-- the divisions and shifts in an expression
+abbrev pub operations_of : Expr → List Operation
+operations_of expr = flat_map (λ part. operation_in (out-Expr part)) (subexpressions_of expr)
+
+-- A division has a value where its divisor cannot be 0, and a shift always.
+abbrev pub has_value : Bounds → Operation → Bool
+has_value bounds operation =
+    not (is_division operation.op && has (bounded_of operation.right bounds).interval (pos 0))
+
+-- each division and shift in a place's expression has a value
+abbrev pub operates_safely : Judgements → Place → Bool
+operates_safely earlier place = list_all (has_value (bounds_at earlier place.scope)) (operations_of place.expr)
 
 abbrev pub calls_safely : Judgements → Place → Bool
 calls_safely earlier place = list_all (safe_in earlier) (calls_in place.expr)
@@ -203,7 +219,7 @@ turns_in_function earlier function = all_turns (statements_of function) (turns_o
 abbrev pub is_safe : Judgements → Function → Bool
 is_safe earlier function =
     not (list_any (λ (param : Param). is_proxy_or_region param.kind) function.params)
-    && list_all (divides_safely earlier) (places_in function)
+    && list_all (operates_safely earlier) (places_in function)
     && are_literal (statements_of function)
     && list_all (calls_safely earlier) (places_in function)
     && nat_le (turns_in_function earlier function) turn_limit

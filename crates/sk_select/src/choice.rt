@@ -1,5 +1,6 @@
 ghost use Rattle.std.specs.Prelude.{◌≡◌};
-ghost use Rattle.sk_select.specs.Choice.{choice_of, covers, offers};
+ghost use Rattle.sk_isa.specs.Offers.{is_offered as offers};
+ghost use Rattle.sk_select.specs.Choice.{choice_of, covers};
 
 use crate::tuning::{Rule, Tuning};
 use sk_base::Variant;
@@ -13,7 +14,7 @@ fn covers_call(rule: &Rule, skeleton: Skeleton, n: u64) -> bool
     rule.skeleton == skeleton && n <= rule.upto
 }
 
-#[tactic(auto, unfolding(crate::specs::Choice::same_variant))]
+#[tactic(auto, unfolding(sk_isa::specs::Offers::same_variant))]
 fn is_offered(plan: &Plan, variant: Variant) -> bool
     ensures { result ≡ offers plan.now variant }
 {

@@ -2,8 +2,9 @@
 use Rattle.std.specs.Prelude.{◌≡◌, ℕ, ℤ, ◌+◌, ◌-◌, Bool, false, ◌==◌, ◌&&◌, List, nat_lt, nat_le, max, min, Some, None, if◌then◌else◌, pos}
 use Rattle.std.specs.declared.option.Option.{Option}
 use Rattle.std.specs.Option.{option_map}
+use Rattle.sk_base.specs.declared.choice.Variant.{Variant}
 use Rattle.sk_base.specs.declared.number.Ty.{Ty}
-use Rattle.sk_spaces.specs.declared.step.Step.{Step}
+use Rattle.sk_spaces.specs.declared.step.CallSettings.{CallSettings}
 
 -- what a copy has at an index: nothing that may be read, the owner's cell, or the cell that was written last
 pub data Mark : Type 0 where
@@ -51,6 +52,20 @@ pub record MemoryLine : Type 0 where
   pub tile : ℕ
   pub lineage : ℕ
 
+-- a call of an instance: the line of the text in which it stands, and what is said of it
+pub record CallLine : Type 0 where
+  pub line : ℕ
+  pub instance : ℕ
+  pub variant : Variant
+  pub parts : ℕ
+  pub recorded : Bool
+  -- the store of its result, where that is a container
+  pub result : Option ℕ
+  -- the stores of its operands
+  pub operands : List ℕ
+  pub uniforms : List ℤ
+  pub settings : CallSettings
+
 pub record Machine : Type 0 where
   -- the first line, or none before it
   pub memory : Option MemoryLine
@@ -62,8 +77,8 @@ pub record Machine : Type 0 where
   -- how many cells the live copies of a space have together
   pub used : ℕ → ℕ
   pub messages : ℕ → Option Message
-  -- the line of each call so far
-  pub calls : ℕ → Option Step
+  -- each call so far
+  pub calls : ℕ → Option CallLine
   -- the store of each container that has one
   pub bound : ℕ → Option ℕ
 

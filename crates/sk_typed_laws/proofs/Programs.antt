@@ -3,6 +3,7 @@ use Rattle.std.proofs.Common.{◌≡◌, ℕ, zero, suc, ◌+◌, ◌-◌, ◌<�
 use Rattle.std.proofs.lemmas.List.Elements.{All-nil}
 use Rattle.std.specs.Prelude.{◌||◌, slice_get}
 use Rattle.std.specs.List.{list_all}
+use Rattle.sk_grammar.specs.Limits.{IsFromTextWithin}
 use Rattle.sk_isa.specs.SoundObjects.{IsSoundPlan}
 use Rattle.sk_isa.specs.declared.object.Object.{Object}
 use Rattle.sk_isa.specs.declared.object.Signature.{Signature}
@@ -23,7 +24,7 @@ use Rattle.sk_typed_laws.proofs.Instances.{HasFunctions, plans_sound}
 use Rattle.sk_typed_laws.proofs.KnownNames.{IsKnownAs, AreKnown, known_own, known_params}
 use Rattle.sk_typed_laws.proofs.Untold.{no_faults}
 use Rattle.sk_typed_laws.proofs.WrittenPrograms.{texts_formed}
-use Rattle.sk_typed_laws.specs.Forms.{HasVectorForm, IsFromTextWithin, last_body, vector_form_of, all_fit, takes_scalars}
+use Rattle.sk_typed_laws.specs.Forms.{HasVectorForm, last_body, vector_form_of, all_fit, takes_scalars}
 use Rattle.sk_typing.specs.Inputs.{input_faults_after}
 use Rattle.sk_typing.specs.Typing.{IsTyped, params_walked, body_faults, functions_faults, is_main, all_taken, main_faults}
 use Rattle.sk_typing.specs.TypingNames.{Knowns, Around, unless, twice_faults}

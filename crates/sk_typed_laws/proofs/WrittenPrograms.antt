@@ -6,7 +6,7 @@ use Rattle.std.specs.Prelude.{nat_le}
 use Rattle.std.specs.List.{list_all}
 use Rattle.sk_grammar.specs.ExpressionSpelling.{sign_at, in_sequence, each}
 use Rattle.sk_grammar.specs.Grammar.{Parameter, Definition, Spelling, parameter_in_front, parameter_tree, definition_in_front, definition_tree, tokens_in, IsLawfulSpelling, IsLawfulDefinition}
-use Rattle.sk_grammar.specs.Limits.{DefinitionFits}
+use Rattle.sk_grammar.specs.Limits.{DefinitionFits, IsFromTextWithin}
 use Rattle.sk_grammar.specs.StatementSpelling.{block_in_front}
 use Rattle.sk_tokens.specs.declared.token.Sign.TheVariants as sign
 use Rattle.sk_tokens.specs.declared.token.Token.{Token}
@@ -14,7 +14,7 @@ use Rattle.sk_tree.specs.declared.tree.Program.{Program}
 use Rattle.sk_typed_laws.proofs.Tokens.{tokens_sized}
 use Rattle.sk_typed_laws.proofs.WrittenExpressions.{behind_commas}
 use Rattle.sk_typed_laws.proofs.WrittenStatements.{block_sized}
-use Rattle.sk_typed_laws.specs.Forms.{AreSized, IsFormed, body_formed, has_few, IsFromTextWithin}
+use Rattle.sk_typed_laws.specs.Forms.{AreSized, IsFormed, body_formed, has_few}
 
 parameter_behind : (parameter : Parameter) (r : List Token) → AreSized (parameter_in_front parameter r) → AreSized r
 parameter_behind (Parameter.ScalarParameter at ty name) r h = h.1.1

@@ -1,10 +1,8 @@
 -- What the text of a program alone says of its expressions and statements, whatever its names stand for.
 use Rattle.std.specs.Prelude.{◌≡◌, ℕ, ◌-◌, Bool, true, false, ◌&&◌, ◌==◌, List, [], ◌∷◌, length, map, nat_le, slice_get, Ok}
 use Rattle.std.specs.List.{list_all}
-use Rattle.sk_grammar.specs.Limits.{ReadsWithin}
 use Rattle.sk_plain.specs.Plain.{fits_type}
 use Rattle.sk_scheme.specs.Plans.{functions_before_main}
-use Rattle.sk_tokens.specs.Tokens.{tokens_of}
 use Rattle.sk_tokens.specs.declared.token.Token.{Token}
 use Rattle.sk_tokens.specs.declared.token.TokenKind.{TokenKind}
 use Rattle.sk_tokens.specs.declared.token.TokenKind.TheVariants.{Word, Number as NumberToken, Text as TextToken, Sign}
@@ -151,10 +149,3 @@ vector_form_of = fold-Statement VectorForm VectorForm vector_step (λ statement.
 pub record HasVectorForm (program : Program) : Type 0 where
   pub functions : FunctionsTakeScalars program
   pub main : all_fit (map vector_form_of (last_body program.functions)) ≡ true
-
--- a text has tokens that read as this program, by a spelling that keeps the limits
-pub record IsFromTextWithin (program : Program) : Type 0 where
-  pub text : List ℕ
-  pub tokens : List Token
-  pub lexed : tokens_of text ≡ Ok tokens
-  pub reads : ReadsWithin tokens program

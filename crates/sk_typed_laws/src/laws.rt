@@ -1,8 +1,9 @@
 ghost use Rattle.std.specs.Prelude.{[]};
+ghost use Rattle.sk_grammar.specs.Limits.{IsFromTextWithin};
 ghost use Rattle.sk_plain.specs.Plain.{ArePlain, IsPlain};
 ghost use Rattle.sk_scheme.specs.Plans.{functions_before_main};
 ghost use Rattle.sk_tree.specs.declared.tree.Program.{Program};
-ghost use Rattle.sk_typed_laws.specs.Forms.{FunctionsTakeScalars, HasVectorForm, IsFormed, IsFromTextWithin, NumbersFit};
+ghost use Rattle.sk_typed_laws.specs.Forms.{FunctionsTakeScalars, HasVectorForm, IsFormed, NumbersFit};
 ghost use Rattle.sk_typing.specs.Typing.{IsTyped};
 
 /// A law: each number among the tokens of a text fits its type.

@@ -5,6 +5,7 @@ use Rattle.std.proofs.lemmas.List.{take-append-drop}
 use Rattle.std.proofs.lemmas.List.Folds.{list_all-append, list_all-map}
 use Rattle.std.specs.Prelude.{slice_get}
 use Rattle.std.specs.List.{list_all, list_any}
+use Rattle.sk_grammar.specs.Limits.{IsFromTextWithin}
 use Rattle.sk_main_fits.proofs.Emission.{statements_emitted}
 use Rattle.sk_main_fits.specs.Mains.{known_in}
 use Rattle.sk_main_fits.specs.StatementFits.{judged_of, sequence_fits, start_standing}
@@ -24,7 +25,7 @@ use Rattle.sk_typed_laws.proofs.Functions.{IsListedAs}
 use Rattle.sk_typed_laws.proofs.Programs.{all_at, main_around, main_reached, names_within}
 use Rattle.sk_typed_laws.proofs.Untold.{no_faults}
 use Rattle.sk_typed_laws.proofs.WrittenPrograms.{texts_formed}
-use Rattle.sk_typed_laws.specs.Forms.{IsFromTextWithin, body_formed}
+use Rattle.sk_typed_laws.specs.Forms.{body_formed}
 use Rattle.sk_typed_main_laws.proofs.Instances.{IsMain}
 use Rattle.sk_typed_main_laws.proofs.Named.{IsNamedAs}
 use Rattle.sk_typed_main_laws.proofs.SingleStatements.{IsAt}

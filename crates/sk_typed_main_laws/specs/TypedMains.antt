@@ -1,8 +1,8 @@
 -- Typed programs of vectors.
 use Rattle.std.specs.Prelude.{◌≡◌, true}
+use Rattle.sk_grammar.specs.Limits.{IsFromTextWithin}
 use Rattle.sk_main_fits.specs.Vectors.{IsOfVectors}
 use Rattle.sk_tree.specs.declared.tree.Program.{Program}
-use Rattle.sk_typed_laws.specs.Forms.{IsFromTextWithin}
 use Rattle.sk_typing.specs.Typing.{IsTyped}
 use Rattle.sk_vector_form.specs.VectorForm.{has_vector_form}
 

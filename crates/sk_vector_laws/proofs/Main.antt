@@ -9,7 +9,7 @@ use Rattle.sk_isa.specs.declared.object.Object.{Object}
 use Rattle.sk_main_code.specs.Sound.{is_short_name}
 use Rattle.sk_main_fits.specs.Mains.{known_in, main_body, main_of}
 use Rattle.sk_main_scheme.specs.MainScheme.{Emitted, all_emitted, emitting_of, main_emitted, only_code}
-use Rattle.sk_main_scheme.proofs.BareObjects.{bare_object, main_of as placed_main}
+use Rattle.sk_main_scheme.proofs.UnmarkedObjects.{unmarked_object, main_of as placed_main}
 use Rattle.sk_main_scheme.specs.Objects.{StandsFor, object_of, offering}
 use Rattle.sk_plain.proofs.Truths.{and_left, and_right}
 use Rattle.sk_safety.specs.Operators.{listed_of}
@@ -72,7 +72,7 @@ main_is program = ap (λ n. main_emitted (known_functions (functions_before_main
 abbrev pub full_object : Program → Object
 full_object program =
     let functions : List Function = functions_before_main program in
-    bare_object functions (placed_main program) program (safe_functions functions) (map listed_of functions) (map (plan_of (known_functions functions)) (placed_main program).behind.instances)
+    unmarked_object functions (placed_main program) program (safe_functions functions) (map listed_of functions) (map (plan_of (known_functions functions)) (placed_main program).behind.instances)
 
 -- its plans, each with what the marks offer
 pub plans_are : (program : Program) → (object_of program).instances ≡ map (offering (full_object program)) (map (plan_of (known_in program)) (placed_main program).behind.instances)

@@ -8,7 +8,7 @@ use Rattle.sk_isa.specs.Offers.{offers}
 use Rattle.sk_isa.specs.SoundObjects.{IsSafe}
 use Rattle.sk_isa.specs.declared.object.Object.{Object}
 use Rattle.sk_isa.specs.declared.object.Plan.{Plan}
-use Rattle.sk_main_scheme.specs.Objects.{AreSomeMarks, bare_of, bare_plan, object_of}
+use Rattle.sk_main_scheme.specs.Objects.{AreSomeMarks, unmarked_of, unmarked_plan, object_of}
 use Rattle.sk_plain.proofs.Lists.{all_one}
 use Rattle.sk_vector_laws.specs.Marks.{BareMarksAreTrue, StandingMarksAreSafe}
 
@@ -22,16 +22,16 @@ no_mark [] n = refl
 no_mark (one ∷ all) zero = refl
 no_mark (one ∷ all) (suc n) = no_mark all n
 
-bare_offered : (object : Object) (plans : List Plan) → All (λ (plan : Plan). All (λ (variant : Variant). offers object plan variant ≡ true) plan.variants) (map bare_plan plans)
-bare_offered object [] = All-nil (λ (plan : Plan). All (λ (variant : Variant). offers object plan variant ≡ true) plan.variants)
-bare_offered object (plan ∷ plans) =
-    All-cons (λ (plan : Plan). All (λ (variant : Variant). offers object plan variant ≡ true) plan.variants) (bare_plan plan) (map bare_plan plans)
-    (all_one (λ (variant : Variant). offers object (bare_plan plan) variant ≡ true) Sequential refl) (bare_offered object plans)
+unmarked_offered : (object : Object) (plans : List Plan) → All (λ (plan : Plan). All (λ (variant : Variant). offers object plan variant ≡ true) plan.variants) (map unmarked_plan plans)
+unmarked_offered object [] = All-nil (λ (plan : Plan). All (λ (variant : Variant). offers object plan variant ≡ true) plan.variants)
+unmarked_offered object (plan ∷ plans) =
+    All-cons (λ (plan : Plan). All (λ (variant : Variant). offers object plan variant ≡ true) plan.variants) (unmarked_plan plan) (map unmarked_plan plans)
+    (all_one (λ (variant : Variant). offers object (unmarked_plan plan) variant ≡ true) Sequential refl) (unmarked_offered object plans)
 
-pub bare_true : BareMarksAreTrue
-bare_true program = record {
+pub absent_true : BareMarksAreTrue
+absent_true program = record {
   safe = λ function e. let no : false ≡ true = sym (no_mark (object_of program).safe function) ∙ e in absurd (cc no);
-  offered = bare_offered (bare_of (object_of program)) (object_of program).instances;
+  offered = unmarked_offered (unmarked_of (object_of program)) (object_of program).instances;
 }
 
 -- ---- some marks

@@ -7,7 +7,7 @@ use Rattle.sk_isa.specs.declared.object.Object.{Object}
 use Rattle.sk_isa.specs.declared.object.Plan.{Plan}
 use Rattle.sk_main_code.specs.Sound.{is_short_name, prints_short_text}
 use Rattle.sk_main_fits.specs.Mains.{known_in, main_body}
-use Rattle.sk_main_scheme.proofs.BareObjects.{main_of as placed_main}
+use Rattle.sk_main_scheme.proofs.UnmarkedObjects.{main_of as placed_main}
 use Rattle.sk_main_scheme.specs.MainScheme.{Emitted}
 use Rattle.sk_main_scheme.specs.Objects.{AreSomePlans, object_of, offering}
 use Rattle.sk_plain.proofs.Truths.{and_left, and_right}

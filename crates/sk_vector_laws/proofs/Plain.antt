@@ -4,6 +4,7 @@ use Rattle.std.proofs.lemmas.Bool.{and_from}
 use Rattle.std.proofs.lemmas.List.Folds.{list_all-map}
 use Rattle.std.specs.Prelude.{false, slice_get}
 use Rattle.std.specs.List.{list_all}
+use Rattle.sk_grammar.specs.Limits.{IsFromTextWithin}
 use Rattle.sk_isa.specs.SoundObjects.{IsSoundPlan}
 use Rattle.sk_main_fits.specs.Mains.{known_in, main_body, main_of}
 use Rattle.sk_main_fits.specs.StatementFits.{start_standing}
@@ -20,7 +21,7 @@ use Rattle.sk_tree.specs.declared.tree.Param.{Param}
 use Rattle.sk_tree.specs.declared.tree.Program.{Program}
 use Rattle.sk_tree.specs.declared.tree.Statement.{Statement}
 use Rattle.sk_typed_laws.proofs.Programs.{typed_vectors_plain}
-use Rattle.sk_typed_laws.specs.Forms.{IsFromTextWithin, is_map, takes_scalars as params_scalar}
+use Rattle.sk_typed_laws.specs.Forms.{is_map, takes_scalars as params_scalar}
 use Rattle.sk_typing.specs.Inputs.{distinct_after, taken_of}
 use Rattle.sk_typing.specs.Typing.{IsTyped, inputs_of, is_main_header, last_function}
 use Rattle.sk_vector_laws.proofs.Emission.{all_held, held_of}

@@ -17,7 +17,7 @@ use Rattle.sk_main_code.specs.MainSoundness.{IsSoundMain}
 use Rattle.sk_main_code.specs.Sound.{AreDistinct, IsSound, has_kind}
 use Rattle.sk_main_code.specs.Vectors.{IsVectorObject}
 use Rattle.sk_main_fits.specs.Mains.{known_in, main_body}
-use Rattle.sk_main_scheme.proofs.BareObjects.{main_of as placed_main, marks-length}
+use Rattle.sk_main_scheme.proofs.UnmarkedObjects.{main_of as placed_main, marks-length}
 use Rattle.sk_main_scheme.specs.MainScheme.{Emitted}
 use Rattle.sk_main_scheme.specs.Objects.{AreSomeMarks, AreSomeOperators, StandsFor, object_of}
 use Rattle.sk_plain.proofs.Truths.{and_left, and_right}

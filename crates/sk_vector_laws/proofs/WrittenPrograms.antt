@@ -5,12 +5,12 @@ use Rattle.std.proofs.lemmas.List.Folds.{list_all-map}
 use Rattle.std.specs.List.{list_all}
 use Rattle.sk_grammar.specs.ExpressionSpelling.{sign_at, in_sequence}
 use Rattle.sk_grammar.specs.Grammar.{Parameter, Definition, Spelling, parameter_in_front, definition_in_front, definition_tree, tokens_in, IsLawfulSpelling, IsLawfulDefinition}
+use Rattle.sk_grammar.specs.Limits.{IsFromTextWithin}
 use Rattle.sk_grammar.specs.StatementSpelling.{block_in_front, block_tree}
 use Rattle.sk_main_code.specs.Sound.{is_short_name}
 use Rattle.sk_tokens.specs.declared.token.Sign.TheVariants as sign
 use Rattle.sk_tokens.specs.declared.token.Token.{Token}
 use Rattle.sk_tree.specs.declared.tree.Program.{Program}
-use Rattle.sk_typed_laws.specs.Forms.{IsFromTextWithin}
 use Rattle.sk_vector_laws.proofs.Tokens.{tokens_short}
 use Rattle.sk_vector_laws.proofs.WrittenExpressions.{behind_commas}
 use Rattle.sk_vector_laws.proofs.WrittenStatements.{block_named, short_name}

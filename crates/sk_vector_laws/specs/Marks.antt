@@ -6,7 +6,7 @@ use Rattle.sk_isa.specs.Offers.{offers}
 use Rattle.sk_isa.specs.SoundObjects.{IsSafe}
 use Rattle.sk_isa.specs.declared.object.Object.{Object}
 use Rattle.sk_isa.specs.declared.object.Plan.{Plan}
-use Rattle.sk_main_scheme.specs.Objects.{StandsFor, bare_of, object_of}
+use Rattle.sk_main_scheme.specs.Objects.{StandsFor, unmarked_of, object_of}
 use Rattle.sk_tree.specs.declared.tree.Program.{Program}
 
 -- each plan is run by variants that the object's own marks offer
@@ -24,7 +24,7 @@ pub record HasTrueMarks (object : Object) : Type 0 where
 
 -- the object without marks, whose plans are run sequentially alone
 abbrev pub BareMarksAreTrue : Type 0
-BareMarksAreTrue = (program : Program) → HasTrueMarks (bare_of (object_of program))
+BareMarksAreTrue = (program : Program) → HasTrueMarks (unmarked_of (object_of program))
 
 -- an object that stands for a program whose own object has true marks
 abbrev pub StandingMarksAreSafe : Type 0

@@ -1,5 +1,6 @@
 -- Objects of typed programs of vectors.
 use Rattle.std.specs.Prelude.{◌≡◌, ℕ, true, Some}
+use Rattle.sk_grammar.specs.Limits.{IsFromTextWithin}
 use Rattle.sk_isa.specs.Objects.{operator_at}
 use Rattle.sk_isa.specs.SoundObjects.{IsMarkedOperator}
 use Rattle.sk_isa.specs.declared.object.Object.{Object}
@@ -7,10 +8,9 @@ use Rattle.sk_main_code.specs.Sound.{HasNames, IsSound}
 use Rattle.sk_main_code.specs.Vectors.{IsVectorObject}
 use Rattle.sk_main_fits.specs.Vectors.{IsOfVectors}
 use Rattle.sk_main_means.specs.MainMeans.{RunsAs}
-use Rattle.sk_main_scheme.specs.Objects.{StandsFor, bare_of, object_of}
+use Rattle.sk_main_scheme.specs.Objects.{StandsFor, unmarked_of, object_of}
 use Rattle.sk_tree.specs.declared.operator.Operator.{Operator}
 use Rattle.sk_tree.specs.declared.tree.Program.{Program}
-use Rattle.sk_typed_laws.specs.Forms.{IsFromTextWithin}
 use Rattle.sk_typing.specs.Typing.{IsTyped}
 use Rattle.sk_vector_form.specs.VectorForm.{has_vector_form}
 use Rattle.sk_vector_laws.specs.Marks.{HasTrueMarks}
@@ -51,7 +51,7 @@ SoundVectorsAreRunnable = (program : Program) → IsTypedOfVectors program → (
 
 -- and so is, and does, the one that is compiled, which has no marks.
 abbrev pub CompiledVectorsAreRunnable : Type 0
-CompiledVectorsAreRunnable = (program : Program) → IsTypedOfVectors program → IsRunnable (bare_of (object_of program)) program
+CompiledVectorsAreRunnable = (program : Program) → IsTypedOfVectors program → IsRunnable (unmarked_of (object_of program)) program
 
 -- Each object that stands for a typed program that a text has, and whose text shows the form of one of vectors, runs as the
 -- program.
@@ -72,4 +72,4 @@ SoundTypedVectorsRun = (program : Program) → IsTyped program → IsFromTextWit
 -- and so is, and does, the one that is compiled.
 abbrev pub CompiledTypedVectorsRun : Type 0
 CompiledTypedVectorsRun = (program : Program) → IsTyped program → IsFromTextWithin program → has_vector_form program ≡ true
-    → IsRunnable (bare_of (object_of program)) program
+    → IsRunnable (unmarked_of (object_of program)) program

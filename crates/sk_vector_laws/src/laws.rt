@@ -1,3 +1,4 @@
+ghost use Rattle.sk_grammar.specs.Limits.{IsFromTextWithin};
 ghost use Rattle.sk_isa.specs.SoundObjects.{HasSoundFunctions};
 ghost use Rattle.sk_isa.specs.declared.object.Object.{Object};
 ghost use Rattle.sk_main_code.specs.Vectors.{IsVectorObject};
@@ -5,7 +6,6 @@ ghost use Rattle.sk_main_scheme.specs.Objects.{StandsFor};
 ghost use Rattle.sk_plain.specs.Means.{MeansSource};
 ghost use Rattle.sk_scheme.specs.Plans.{functions_object};
 ghost use Rattle.sk_tree.specs.declared.tree.Program.{Program};
-ghost use Rattle.sk_typed_laws.specs.Forms.{IsFromTextWithin};
 ghost use Rattle.sk_vector_laws.specs.Marks.{BareMarksAreTrue, HasTrueMarks, StandingMarksAreSafe};
 ghost use Rattle.sk_vector_laws.specs.Names.{IsNamedShortly};
 ghost use Rattle.sk_vector_laws.specs.Vectors.{CompiledTypedVectorsRun, CompiledVectorsAreRunnable, IsTypedOfVectors, SoundTypedVectorsRun, SoundVectorsAreRunnable, StandingObjectsAreNamed, StandingOperatorsAreTrue, StandingVectorsAreRunnable, StandingVectorsRun, TypedVectorsRun, TypedVectorsRunAsSource};
@@ -21,7 +21,7 @@ pub fn standing_objects_are_named()
 {}
 
 /// A law: the marks of the object of a program without marks are true.
-pub fn bare_marks_are_true()
+pub fn absent_marks_are_true()
     ensures { BareMarksAreTrue }
 {}
 

@@ -7,7 +7,7 @@
 mod laws;
 
 pub use laws::{
-    bare_marks_are_true, compiled_vectors_are_runnable, programs_of_texts_are_named_shortly,
+    absent_marks_are_true, compiled_vectors_are_runnable, programs_of_texts_are_named_shortly,
     sound_vectors_are_runnable, standing_marks_are_safe, standing_objects_are_named,
     standing_operators_are_true, standing_vectors_are_runnable,
     standing_vectors_are_vector_objects, standing_vectors_have_sound_functions,

@@ -7,7 +7,7 @@ use Rattle.sk_cli.proofs.Refusals.{refusal-answered, told-answer, told-want}
 use Rattle.sk_cli.proofs.Runs.{ran-of_run, run-answer}
 use Rattle.sk_isa.specs.declared.object.Object.{Object}
 use Rattle.sk_main_code.specs.MainSteps.{coded_of}
-use Rattle.sk_main_scheme.specs.Objects.{bare_of, object_of}
+use Rattle.sk_main_scheme.specs.Objects.{unmarked_of, object_of}
 use Rattle.sk_tree.specs.declared.tree.Program.{Program}
 use Rattle.sk_vector_laws.specs.Vectors.{IsRunnable}
 use Rattle.sk_world.specs.Runs.{ProgramRun}

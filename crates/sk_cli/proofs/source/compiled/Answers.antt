@@ -3,10 +3,9 @@ use Rattle.std.proofs.Common.{arith, ◌≤◌, ◌≡◌, ◌∙◌, true, List
 use Rattle.sk_cli.proofs.Runs.{from-source}
 use Rattle.sk_cli.proofs.TokenCount.{few-tokens}
 use Rattle.sk_cli.specs.Sources.{Spells}
-use Rattle.sk_grammar.specs.Limits.{ReadsWithin}
+use Rattle.sk_grammar.specs.Limits.{ReadsWithin, IsFromTextWithin}
 use Rattle.sk_tokens.specs.declared.token.Token.{Token}
 use Rattle.sk_tree.specs.declared.tree.Program.{Program}
-use Rattle.sk_typed_laws.specs.Forms.{IsFromTextWithin}
 use Rattle.sk_typing.specs.Typing.{IsTyped}
 use Rattle.sk_vector_form.specs.VectorForm.{has_vector_form}
 use Rattle.sk_vector_laws.specs.Vectors.{IsRunnable}

@@ -1,6 +1,6 @@
 use Rattle.std.proofs.Common.{sym, subst}
 use Rattle.sk_isa.specs.declared.object.Object.{Object}
-use Rattle.sk_main_scheme.proofs.BareObjects.{bare_stands}
+use Rattle.sk_main_scheme.proofs.UnmarkedObjects.{unmarked_stands}
 use Rattle.sk_main_scheme.specs.Objects.{StandsFor}
 use Rattle.sk_vector_laws.proofs.Assembly.{compiled_typed_run}
 use Rattle.sk_vector_laws.specs.Vectors.{IsRunnable}
@@ -8,7 +8,7 @@ use Rattle.sk_codegen.proofs.program.compile.Goals as goal
 
 pub returns-clause-stands : goal.returns-clause-stands
 returns-clause-stands c =
-    subst (λ (object : Object). StandsFor object c.args.program.now) (sym c.in_ok-object.ensures) (bare_stands c.args.program.now)
+    subst (λ (object : Object). StandsFor object c.args.program.now) (sym c.in_ok-object.ensures) (unmarked_stands c.args.program.now)
 
 pub returns-clause-runs : goal.returns-clause-runs
 returns-clause-runs c typed from form =

@@ -1,7 +1,7 @@
 use Rattle.std.proofs.Common.{◌≡◌, ◌∙◌, List, ◌∷◌, ◌++◌, [], length, map, replicate, false, Option, None, ap}
 use Rattle.std.specs.Prelude.{slice_get}
 use Rattle.sk_isa.specs.declared.object.Object.{Object}
-use Rattle.sk_main_scheme.proofs.BareObjects.{main_of}
+use Rattle.sk_main_scheme.proofs.UnmarkedObjects.{main_of}
 use Rattle.sk_main_scheme.specs.MainScheme.{Emitted, main_emitted}
 use Rattle.sk_main_emitter.proofs.MainProgram.{object_is}
 use Rattle.sk_main_emitter.proofs.program.compile.Goals as goal

@@ -17,7 +17,7 @@ use Rattle.sk_tree.specs.declared.tree.Function.{Function}
 use Rattle.sk_tree.specs.declared.tree.Instance as tree
 use Rattle.sk_tree.specs.declared.tree.ParamKind.TheVariants.{Scalar}
 use Rattle.sk_typing.specs.Typing.{inputs_of}
-use Rattle.sk_main_scheme.specs.Objects.{AreSomeMarks, AreSomeOperators, IsPart, IsSomePlan, AreSomePlans, StandsFor, offering, bare_plan, bare_of, object_of}
+use Rattle.sk_main_scheme.specs.Objects.{AreSomeMarks, AreSomeOperators, IsPart, IsSomePlan, AreSomePlans, StandsFor, offering, unmarked_plan, unmarked_of, object_of}
 use Rattle.sk_tree.specs.declared.operator.Operator.{Operator}
 use Rattle.sk_tree.specs.declared.tree.Program.{Program}
 
@@ -30,11 +30,11 @@ no-operators [] = tt
 no-operators (one ∷ all) = ((λ kind is. absurd (cc is)), no-operators all)
 
 -- every plan offers to be run sequentially, and that first
-bare-plans : (object : Object) (plans : List Plan) → AreSomePlans (map bare_plan (map (offering object) plans)) (map (offering object) plans)
-bare-plans object [] = tt
-bare-plans object (plan ∷ plans) = (
+unmarked-plans : (object : Object) (plans : List Plan) → AreSomePlans (map unmarked_plan (map (offering object) plans)) (map (offering object) plans)
+unmarked-plans object [] = tt
+unmarked-plans object (plan ∷ plans) = (
   record { same = refl; part = inl (refl, tt); sequential = (0, omega arith, refl) },
-  bare-plans object plans,
+  unmarked-plans object plans,
 )
 
 -- ---- what the object of a program is without marks, operators and further variants
@@ -60,12 +60,12 @@ marks-length functions =
     ∙ omega (arith, judged-length [] functions)
 
 plans-are : (known : List (List ℕ × Known)) (object : Object) (instances : List tree.Instance)
-    → map bare_plan (map (offering object) (map (plan_of known) instances)) ≡ map (plan_of known) instances
+    → map unmarked_plan (map (offering object) (map (plan_of known) instances)) ≡ map (plan_of known) instances
 plans-are known object [] = refl
 plans-are known object (instance ∷ instances) = ap (λ l. plan_of known instance ∷ l) (plans-are known object instances)
 
-abbrev pub bare_object : (functions : List Function) → (main : Emitted) → Program → (safe : List Bool) → (operators : List (Option Operator)) → List Plan → Object
-bare_object functions main program safe operators plans = record {
+abbrev pub unmarked_object : (functions : List Function) → (main : Emitted) → Program → (safe : List Bool) → (operators : List (Option Operator)) → List Plan → Object
+unmarked_object functions main program safe operators plans = record {
   functions = codes_of functions;
   signatures = signatures_of functions ++ record { ret = Int; params = []; slots = map Scalar main.behind.slots } ∷ [];
   safe = safe;
@@ -84,29 +84,29 @@ main_of program = main_emitted (known_functions (functions_before_main program))
 abbrev full_object : Program → Object
 full_object program =
     let functions : List Function = functions_before_main program in
-    bare_object functions (main_of program) program (safe_functions functions) (map listed_of functions)
+    unmarked_object functions (main_of program) program (safe_functions functions) (map listed_of functions)
     (map (plan_of (known_functions functions)) (main_of program).behind.instances)
 
-pub bare_stands : (program : Program) → StandsFor (bare_of (object_of program)) program
-bare_stands program = record {
+pub unmarked_stands : (program : Program) → StandsFor (unmarked_of (object_of program)) program
+unmarked_stands program = record {
   same = refl;
   safe = no-marks (object_of program).safe;
   operators = no-operators (object_of program).operators;
-  instances = bare-plans (full_object program) (full_object program).instances;
+  instances = unmarked-plans (full_object program) (full_object program).instances;
 }
 
-pub bare_is : (program : Program)
-    → bare_of (object_of program)
-    ≡ bare_object (functions_before_main program) (main_of program) program
+pub unmarked_is : (program : Program)
+    → unmarked_of (object_of program)
+    ≡ unmarked_object (functions_before_main program) (main_of program) program
     (replicate (length (functions_before_main program)) false) (replicate (length (functions_before_main program)) None)
     (map (plan_of (known_functions (functions_before_main program))) (main_of program).behind.instances)
-bare_is program =
+unmarked_is program =
     let functions : List Function = functions_before_main program in
     let main : Emitted = main_of program in
     let n : ℕ = length functions in
-    ap (λ safe. bare_object functions main program safe (map (λ operator. None) (map listed_of functions)) (bare_of (object_of program)).instances)
+    ap (λ safe. unmarked_object functions main program safe (map (λ operator. None) (map listed_of functions)) (unmarked_of (object_of program)).instances)
     (cleared false (safe_functions functions) n (marks-length functions))
-    ∙ ap (λ operators. bare_object functions main program (replicate n false) operators (bare_of (object_of program)).instances)
+    ∙ ap (λ operators. unmarked_object functions main program (replicate n false) operators (unmarked_of (object_of program)).instances)
     (cleared None (map listed_of functions) n (length-map functions listed_of))
-    ∙ ap (λ plans. bare_object functions main program (replicate n false) (replicate n None) plans)
+    ∙ ap (λ plans. unmarked_object functions main program (replicate n false) (replicate n None) plans)
     (plans-are (known_functions functions) (full_object program) main.behind.instances)

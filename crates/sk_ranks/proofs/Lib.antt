@@ -15,3 +15,4 @@ mod StartLemmas
 mod BuildLemmas
 mod OrderLemmas
 mod ThereLemmas
+mod Examples

@@ -1,11 +1,13 @@
 -- Worked examples of bounds and turns, by evaluation.
 use Rattle.std.proofs.Common.{◌≡◌, refl}
-use Rattle.std.specs.Prelude.{true, false, Some, pos, negsuc, codes}
-use Rattle.sk_base.specs.declared.number.Op.TheVariants.{Add, Rem, Div, And}
+use Rattle.std.specs.Prelude.{true, false, [], ◌∷◌, Some, pos, negsuc, codes}
+use Rattle.sk_base.specs.declared.number.Op.TheVariants.{Add, Rem, Div, And, Shl}
 use Rattle.sk_base.specs.declared.number.Ty.TheVariants.{Int}
-use Rattle.sk_safety.specs.Intervals.{full, only, operation_interval, prefix_interval}
+use Rattle.sk_safety.specs.Intervals.{Bounds, full, only, operation_interval, prefix_interval}
 use Rattle.sk_safety.specs.Loops.{turns_to, numbers_to}
-use Rattle.sk_safety.specs.Safety.{loop_turns}
+use Rattle.sk_safety.specs.Safety.{has_value, loop_turns, operation_in}
+use Rattle.sk_tree.specs.declared.tree.Expr.{Expr}
+use Rattle.sk_tree.specs.declared.tree.Expr.TheOpen.{Binary}
 use Rattle.sk_tree.specs.declared.tree.Un.TheVariants.{Neg}
 
 -- `a % 4 + 5` lies from 2 to 8
@@ -40,3 +42,13 @@ numbers = (refl, refl)
 nested : (loop_turns (Some (record { name = codes "i"; ty = Int; interval = only (pos 0); turns = 300 })) 300 ≡ 90300)
     × (loop_turns (Some (record { name = codes "i"; ty = Int; interval = only (pos 0); turns = 300 })) 200 ≡ 60300)
 nested = (refl, refl)
+
+-- divisions and shifts are looked at, and sums are not
+looked_at : (left right : Expr) → (operation_in (Binary Rem left right) ≡ record { op = Rem; left = left; right = right } ∷ [])
+    × (operation_in (Binary Shl left right) ≡ record { op = Shl; left = left; right = right } ∷ [])
+    × (operation_in (Binary Add left right) ≡ [])
+looked_at left right = (refl, refl, refl)
+
+-- a shift has a value whatever its operands are
+shifts : (bounds : Bounds) (left right : Expr) → has_value bounds (record { op = Shl; left = left; right = right }) ≡ true
+shifts bounds left right = refl

@@ -20,4 +20,4 @@ first transfer = refl
 
 -- it is sent and delivered, and then the job runs
 whole : (transfer : Transfer) → IsRun (before transfer) (Send 0 ∷ Deliver 0 ∷ Run 0 ∷ []) (behind transfer)
-whole transfer = ((lit< tt, refl), (lit< tt, refl), (lit< tt, refl), refl)
+whole transfer = ((lit< tt, refl), ((lit< tt, refl), ((lit< tt, refl), refl)))

@@ -1,1 +1,3 @@
 pub mod Examples
+pub mod SettingLaws
+pub mod Tiles

@@ -1,4 +1,6 @@
+pub mod Calls
 pub mod Choices
 pub mod Kernels
 pub mod Needs
 pub mod Ranges
+pub mod SettingLines

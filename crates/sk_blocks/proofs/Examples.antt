@@ -4,7 +4,7 @@ use Rattle.sk_base.specs.declared.choice.EdgeMode.TheVariants.{Cyclic}
 use Rattle.sk_base.specs.declared.choice.Variant.TheVariants.{Sequential, Chunked, Cluster, Lanes}
 use Rattle.sk_blocks.specs.Calls.{Operand, SizedCall}
 use Rattle.sk_blocks.specs.Choices.{rule_elements, chosen_of}
-use Rattle.sk_blocks.specs.Kernels.{KernelRun, call_kernels, joins_of, units_of, tile_count, tile_kernel, kernel_ranges, totals_read}
+use Rattle.sk_blocks.specs.Kernels.{KernelRun, call_kernels, joins_of, units_of, tile_count, tile_kernel, kernel_ranges, reads_index, totals_read}
 use Rattle.sk_blocks.specs.Needs.{need_of, fits}
 use Rattle.sk_blocks.specs.Ranges.{range, overlap_ranges}
 use Rattle.sk_parts.specs.Cut.{Part}
@@ -197,3 +197,8 @@ no-tile-behind = refl
 
 pub no-tile-of-nothing : tile_count 4 0 ≡ 0
 no-tile-of-nothing = refl
+
+-- ---- an operand that the call has not is not read
+
+pub no-second-operand : reads_index overlapped (record { kind = Element; part = 0; lo = 0; hi = 8; units = range 0 8; space = 0 }) 1 0 ≡ false
+no-second-operand = refl

@@ -1,5 +1,5 @@
 -- A call with the sizes of what it works on.
-use Rattle.std.specs.Prelude.{ℕ, List, [], map, take, Option, Some, None, slice_get}
+use Rattle.std.specs.Prelude.{ℕ, List, [], map, take, Option}
 use Rattle.sk_formula.specs.Calls.{Sizes}
 use Rattle.sk_tree.specs.declared.settings.Settings.{Settings}
 use Rattle.sk_tree.specs.declared.tree.Skeleton.{Skeleton}
@@ -27,7 +27,3 @@ shapes_of operands = map (λ (operand : Operand). operand.shape) operands
 -- the sizes by which the call is cut: of its result, and of the operands that are not given whole
 abbrev pub sizes_of : SizedCall → Sizes
 sizes_of call = record { result = call.result; operands = shapes_of (take call.elements call.operands) }
-
--- the sizes of an operand
-abbrev pub shape_in : SizedCall → (operand : ℕ) → List ℕ
-shape_in call operand = elim (slice_get call.operands operand) [ Some found ↦ found.shape | None ↦ [] ]

@@ -1,9 +1,9 @@
 -- Which ranges of its operands some units of a call read.
-use Rattle.std.specs.Prelude.{ℕ, zero, suc, ◌*◌, ◌-◌, ◌==◌, ◌&&◌, nat_le, nat_lt, Bool, false, if◌then◌else◌, List, [], ◌∷◌, map, filter, Some, None}
+use Rattle.std.specs.Prelude.{ℕ, zero, suc, ◌*◌, ◌-◌, ◌==◌, ◌&&◌, nat_le, nat_lt, Bool, false, if◌then◌else◌, List, [], ◌∷◌, map, filter, Some, None, slice_get}
 use Rattle.std.specs.List.{list_any}
 use Rattle.sk_arguments.specs.Places.{is_reached}
 use Rattle.sk_base.specs.Shape.{cells_of}
-use Rattle.sk_blocks.specs.Calls.{SizedCall, sizes_of, shape_in}
+use Rattle.sk_blocks.specs.Calls.{SizedCall, sizes_of}
 use Rattle.sk_formula.specs.Calls.{Sizes, columns_of, first_operand}
 use Rattle.sk_parts.specs.Cut.{Part}
 use Rattle.sk_tree.specs.declared.settings.Settings.{Settings}
@@ -79,11 +79,12 @@ is_some_range part = nat_lt part.lo part.hi
 -- The ranges of an operand that these units read, those without an index left out. Containers that are given whole stand
 -- behind the others, and are read whole.
 abbrev pub ranges_of : SizedCall → (lo hi operand : ℕ) → List Part
-ranges_of call lo hi operand =
-    filter is_some_range (
-    if nat_lt operand call.elements
-    then unit_ranges call.skeleton call.settings (sizes_of call) (shape_in call operand) operand lo hi
-    else whole_of (shape_in call operand) ∷ [])
+ranges_of call lo hi operand = elim (slice_get call.operands operand) [
+  | Some found ↦ filter is_some_range (
+      if nat_lt operand call.elements
+      then unit_ranges call.skeleton call.settings (sizes_of call) found.shape operand lo hi else whole_of found.shape ∷ [])
+  | None ↦ []
+]
 
 -- an index is in one of some ranges
 abbrev pub is_in : List Part → (index : ℕ) → Bool

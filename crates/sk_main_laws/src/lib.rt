@@ -7,7 +7,7 @@
 mod laws;
 
 pub use laws::{
-    instances_compute_by_their_meaning, main_begins_fine, main_calls_are_fine, main_calls_are_given, main_calls_are_made, main_ends,
-    main_finds_what_it_needs, main_is_never_stuck, main_measure_falls, main_ranks_fall,
-    main_runs_to_its_meaning,
+    instances_compute_by_their_meaning, main_begins_fine, main_calls_are_fine,
+    main_calls_are_given, main_calls_are_made, main_ends, main_finds_what_it_needs,
+    main_is_never_stuck, main_measure_falls, main_ranks_fall, main_runs_to_its_meaning,
 };

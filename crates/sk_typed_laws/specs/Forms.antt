@@ -3,6 +3,7 @@ use Rattle.std.specs.Prelude.{◌≡◌, ℕ, ◌-◌, Bool, true, false, ◌&&�
 use Rattle.std.specs.List.{list_all}
 use Rattle.sk_plain.specs.Plain.{fits_type}
 use Rattle.sk_scheme.specs.Plans.{functions_before_main}
+use Rattle.sk_tokens.specs.Tokens.{tokens_of}
 use Rattle.sk_tokens.specs.declared.token.Token.{Token}
 use Rattle.sk_tokens.specs.declared.token.TokenKind.{TokenKind}
 use Rattle.sk_tokens.specs.declared.token.TokenKind.TheVariants.{Word, Number as NumberToken, Text as TextToken, Sign}

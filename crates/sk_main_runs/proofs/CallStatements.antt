@@ -1,6 +1,6 @@
 -- What the code of call statements does.
 use Rattle.std.proofs.Common.{◌≡◌, ℕ, zero, suc, ◌+◌, ◌≤◌, List, [], ◌∷◌, ◌++◌, length, map, take, drop, reverse, ℤ, Option, Some, None, refl, sym, ap, ◌∙◌, subst, arith, length-append}
-use Rattle.std.proofs.lemmas.List.{length-map}
+use Rattle.std.proofs.lemmas.List.{length-map, append-nil}
 use Rattle.std.specs.List.{list_all}
 use Rattle.std.specs.Prelude.{Result, Ok, Err, true, Bool, ◌&&◌, ◌==◌, slice_get}
 use Rattle.sk_arguments.specs.Operands.{uniforms_taken}
@@ -28,7 +28,7 @@ use Rattle.sk_main_runs.proofs.ExpressionRuns.{fitted-length}
 use Rattle.sk_main_runs.proofs.Flows.{Runs, runs_to, runs_values, runs_world}
 use Rattle.sk_main_runs.proofs.Names.{name_found}
 use Rattle.sk_main_runs.proofs.Runs.{like_same, stands}
-use Rattle.sk_main_runs.proofs.StatementNodes.{append-none, IsAt, Does, Follows, keeps_same, counted_does}
+use Rattle.sk_main_runs.proofs.StatementNodes.{IsAt, Does, Follows, keeps_same, counted_does}
 use Rattle.sk_main_runs.proofs.Tidy.{tidy_like}
 use Rattle.sk_main_runs.proofs.Values.{arguments_give, wrapped-twice}
 use Rattle.sk_main_runs.specs.SameMeaning.{Agree, AreNamed, IsInstance, IsLeft, IsTidy, fitted}
@@ -279,7 +279,7 @@ module _ (object : Object) (functions : List (List ℕ × Known)) (judgements : 
       by_arguments [] fit has = absurd (no_arguments (bound_to name st.scope) fit)
       by_arguments (result ∷ rest) fit has =
           let code : List Instr = code_for (bound_to name st.scope) (result ∷ rest) (around_at functions st) st.at in
-          runs_to object functions slots st.at [] state.world (st.at + length code) (st.at + length (code ++ [])) st.scope (length st.slots) (call_run name (result ∷ rest) state) (ap (λ (l : List Instr). st.at + length l) (sym (append-none code)))
+          runs_to object functions slots st.at [] state.world (st.at + length code) (st.at + length (code ++ [])) st.scope (length st.slots) (call_run name (result ∷ rest) state) (ap (λ (l : List Instr). st.at + length l) (sym (append-nil code)))
           (by_named result rest (bound_to name st.scope) (bound_to name state.scope) (name_found object name st.scope state.scope slots (length st.slots) is.agree) fit
           (has_front object.main.instrs st.at code [] has))
 

@@ -1,7 +1,7 @@
 -- What the code of declarations of containers does, and that of writes of elements.
 use Rattle.std.proofs.Common.{◌≡◌, ℕ, zero, suc, ◌+◌, ◌≤◌, List, [], ◌∷◌, ◌++◌, length, map, take, drop, reverse, ℤ, pos, Option, Some, None, refl, sym, ap, ◌∙◌, subst, arith, length-append}
 use Rattle.std.proofs.Math.Seq.{take-append_seam, drop-append_seam}
-use Rattle.std.proofs.lemmas.List.{take-append-drop}
+use Rattle.std.proofs.lemmas.List.{take-append-drop, append-nil}
 use Rattle.std.specs.Prelude.{Result, Ok, Err, true, false, Bool, ◌&&◌, ◌||◌, ◌==◌, slice_get, slice_index_or}
 use Rattle.sk_base.specs.Arithmetic.{wrapped}
 use Rattle.sk_base.specs.ArithmeticLaws.{wrapped-same}
@@ -23,7 +23,7 @@ use Rattle.sk_main_runs.proofs.Containers.{make-converted, made_tidy, poked_so}
 use Rattle.sk_main_runs.proofs.Flows.{Runs, runs_after, runs_counted, runs_in_world, runs_nothing, runs_values, runs_wanted, runs_world}
 use Rattle.sk_main_runs.proofs.Names.{name_found}
 use Rattle.sk_main_runs.proofs.Runs.{IsLike, like_same, like_on, stands, Finishes, Leads, leads_on, step, leads_same, Gives}
-use Rattle.sk_main_runs.proofs.StatementNodes.{append-none, IsAt, Does, Follows, keeps_same, is_counted, counted_does, wanted_value}
+use Rattle.sk_main_runs.proofs.StatementNodes.{IsAt, Does, Follows, keeps_same, is_counted, counted_does, wanted_value}
 use Rattle.sk_main_runs.proofs.Tidy.{tidy_like, zero-in_range}
 use Rattle.sk_main_runs.proofs.Values.{at-seam, places_give, pushed-last, values-append, values_then}
 use Rattle.sk_main_runs.specs.SameMeaning.{AreNamed}
@@ -200,7 +200,7 @@ module _ (object : Object) (functions : List (List ℕ × Known)) (judgements : 
       scope = λ st. ((name, Whole (length st.containers) ty) ∷ [], refl);
       slots = λ st. omega arith;
       containers = λ st. (record { name = name; kind = kind; ty = ty } ∷ [], refl, refl);
-      instances = λ st. ([], sym (append-none st.instances), refl);
+      instances = λ st. ([], sym (append-nil st.instances), refl);
       light = λ e. let no : ⊥ = cc in absurd no;
       step = λ e st. let no : ⊥ = cc in absurd no;
       plain = λ e st. let no : ⊥ = cc in absurd no;

@@ -1,5 +1,6 @@
 -- What the code of a `for` does with its head, and that of a declaration of an instance.
 use Rattle.std.proofs.Common.{ℕ, ◌+◌, List, [], ◌∷◌, ◌++◌, length, refl, sym, ap, ◌∙◌, subst, arith, append_assoc, length-append}
+use Rattle.std.proofs.lemmas.List.{append-nil}
 use Rattle.std.specs.Prelude.{◌&&◌, Ok}
 use Rattle.sk_isa.specs.declared.code.Instr.{Instr}
 use Rattle.sk_isa.specs.declared.object.Object.{Object}
@@ -13,7 +14,7 @@ use Rattle.sk_main_runs.proofs.BlockEnds.{left_runs}
 use Rattle.sk_main_runs.proofs.Choices.{block_numbered, block_judged}
 use Rattle.sk_main_runs.proofs.Flows.{runs_then, runs_counted, runs_nothing}
 use Rattle.sk_main_runs.proofs.Loops.{loop_at, loop_size, loop_runs, body_stands, body_at, step_at, ends}
-use Rattle.sk_main_runs.proofs.StatementNodes.{append-none, Holds, Follows, Keeps, holds_before, at_next, is_counted}
+use Rattle.sk_main_runs.proofs.StatementNodes.{Holds, Follows, Keeps, holds_before, at_next, is_counted}
 use Rattle.sk_main_runs.specs.SameMeaning.{Agree, IsInstance}
 use Rattle.sk_main_scheme.specs.MainScheme.{Named, Called, Standing, Emitted, made_of}
 use Rattle.sk_plain.proofs.Lists.{slice_get-seam}
@@ -118,7 +119,7 @@ module _ (object : Object) (functions : List (List ℕ × Known)) (judgements : 
       at = λ st. omega arith;
       scope = λ st. ((instance.name, Called (made_of functions (length st.instances) instance)) ∷ [], refl);
       slots = λ st. omega arith;
-      containers = λ st. ([], sym (append-none st.containers), refl);
+      containers = λ st. ([], sym (append-nil st.containers), refl);
       instances = λ st. (instance ∷ [], refl, refl);
       light = λ e. let no : ⊥ = cc in absurd no;
       step = λ e st. let no : ⊥ = cc in absurd no;

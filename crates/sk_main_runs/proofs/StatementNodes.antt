@@ -1,5 +1,6 @@
 -- What the code of a statement of main does, from what the code of its parts does: what is asked, sequences, and blocks.
 use Rattle.std.proofs.Common.{◌≡◌, ℕ, suc, ◌+◌, ◌-◌, ◌≤◌, List, [], ◌∷◌, ◌++◌, length, take, ℤ, Some, refl, sym, ap, ◌∙◌, subst, arith, append_assoc, length-append}
+use Rattle.std.proofs.lemmas.List.{append-nil}
 use Rattle.std.proofs.Math.Seq.{take-append_seam}
 use Rattle.std.specs.Prelude.{All, slice_get, true, false, ◌&&◌, Ok}
 use Rattle.sk_base.specs.declared.number.Ty.{Ty}
@@ -30,11 +31,6 @@ use Rattle.sk_tree.specs.declared.declared.Declared.{Declared}
 use Rattle.sk_tree.specs.declared.tree.Expr.{Expr}
 use Rattle.sk_tree.specs.declared.tree.Instance as instances
 use Rattle.sk_world.specs.World.{World, Container}
-
-module _ {A : Type 0} where
-  pub append-none : (xs : List A) → xs ++ [] ≡ xs
-  append-none [] = refl
-  append-none (x ∷ xs) = ap (λ l. x ∷ l) (append-none xs)
 
 module _ (object : Object) (functions : List (List ℕ × Known)) (judgements : Judgements) where
   -- the containers that were declared so far are the object's first ones, and each instance does what it does in the tree
@@ -84,8 +80,8 @@ module _ (object : Object) (functions : List (List ℕ × Known)) (judgements : 
     at = at;
     scope = λ st. ([], scope st);
     slots = slots;
-    containers = λ st. ([], containers st ∙ sym (append-none st.containers), refl);
-    instances = λ st. ([], instances st ∙ sym (append-none st.instances), refl);
+    containers = λ st. ([], containers st ∙ sym (append-nil st.containers), refl);
+    instances = λ st. ([], instances st ∙ sym (append-nil st.instances), refl);
     light = λ e. refl;
     step = λ e st. scope st;
     plain = λ e st. refl;

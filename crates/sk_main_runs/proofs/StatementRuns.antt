@@ -1,5 +1,6 @@
 -- The code of statements of main does what the statements do, where they fit.
 use Rattle.std.proofs.Common.{◌≡◌, ℕ, List, [], ◌∷◌, length, map, refl, sym, ap, subst, arith}
+use Rattle.std.proofs.lemmas.List.{append-nil}
 use Rattle.std.specs.List.{list_all}
 use Rattle.std.specs.Prelude.{true, false}
 use Rattle.sk_isa.specs.declared.object.Object.{Object}
@@ -12,7 +13,7 @@ use Rattle.sk_main_runs.proofs.CallStatements.{call_follows}
 use Rattle.sk_main_runs.proofs.Choices.{block_numbered, block_judged, if_follows, if_else_follows}
 use Rattle.sk_main_runs.proofs.ContainerStatements.{make_follows, poke_follows}
 use Rattle.sk_main_runs.proofs.Heads.{for_follows, instance_follows}
-use Rattle.sk_main_runs.proofs.StatementNodes.{append-none, Follows, keeps_same, none_follows, pair_follows, block_follows}
+use Rattle.sk_main_runs.proofs.StatementNodes.{Follows, keeps_same, none_follows, pair_follows, block_follows}
 use Rattle.sk_main_runs.proofs.Statements.{assign_follows, declare_follows, print_follows, return_follows}
 use Rattle.sk_main_scheme.specs.MainScheme.{Whole, all_emitted}
 use Rattle.sk_plain.proofs.Parts.{statements_of, plain_level}
@@ -67,7 +68,7 @@ module _ (object : Object) (functions : List (List ℕ × Known)) (judgements : 
       scope = λ st. ((name, Whole (length st.containers) ty) ∷ [], refl);
       slots = λ st. omega arith;
       containers = λ st. (record { name = name; kind = kind; ty = ty } ∷ [], refl, refl);
-      instances = λ st. ([], sym (append-none st.instances), refl);
+      instances = λ st. ([], sym (append-nil st.instances), refl);
       light = λ e. let no : ⊥ = cc in absurd no;
       step = λ e st. let no : ⊥ = cc in absurd no;
       plain = λ e st. let no : ⊥ = cc in absurd no;

@@ -1,5 +1,6 @@
 -- What the code of single statements of main does: declarations and assignments of scalars, printing, and returning.
 use Rattle.std.proofs.Common.{◌≡◌, ℕ, suc, ◌+◌, ◌<◌, List, [], ◌∷◌, ◌++◌, length, map, Option, Some, None, refl, sym, subst, arith, length-append}
+use Rattle.std.proofs.lemmas.List.{append-nil}
 use Rattle.std.specs.Fmt.{signed_decimal}
 use Rattle.std.specs.Prelude.{slice_set, true, false, ◌&&◌, Ok, Err}
 use Rattle.sk_base.specs.Arithmetic.{wrapped}
@@ -17,7 +18,7 @@ use Rattle.sk_main_run.specs.MainRunLaws.{at_line}
 use Rattle.sk_main_runs.proofs.Agreement.{IsSet, agree_declare, name_set}
 use Rattle.sk_main_runs.proofs.Flows.{Runs, runs_nothing, runs_value, runs_counted, runs_one, runs_store}
 use Rattle.sk_main_runs.proofs.Runs.{like_same, stands, step, last_step}
-use Rattle.sk_main_runs.proofs.StatementNodes.{append-none, Does, Follows, keeps_same, pair_follows, is_counted, counted_does, value_gives, wanted_value}
+use Rattle.sk_main_runs.proofs.StatementNodes.{Does, Follows, keeps_same, pair_follows, is_counted, counted_does, value_gives, wanted_value}
 use Rattle.sk_main_runs.proofs.Tidy.{tidy_like}
 use Rattle.sk_main_runs.specs.SameMeaning.{Agree}
 use Rattle.sk_main_scheme.specs.MainScheme.{Around, Named, Number, Whole, Called, Standing, Emitting, around_at, all_emitted, main_piece, named_type, store_code, type_in, item_emitted, taking}
@@ -46,8 +47,8 @@ module _ (object : Object) (functions : List (List ℕ × Known)) (judgements : 
       at = λ st. omega arith;
       scope = λ st. ((name, Number (length st.slots) ty) ∷ [], refl);
       slots = λ st. omega (arith, length-append st.slots (ty ∷ []));
-      containers = λ st. ([], sym (append-none st.containers), refl);
-      instances = λ st. ([], sym (append-none st.instances), refl);
+      containers = λ st. ([], sym (append-nil st.containers), refl);
+      instances = λ st. ([], sym (append-nil st.instances), refl);
       light = λ e. refl;
       step = λ e st. let no : ⊥ = cc in absurd no;
       plain = λ e st. refl;

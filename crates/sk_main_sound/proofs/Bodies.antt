@@ -1,9 +1,9 @@
 -- The code of statements of main is sound where they fit.
 use Rattle.std.proofs.Common.{ℕ, List, [], ◌∷◌, length, map, refl, sym, subst, arith}
+use Rattle.std.proofs.lemmas.List.{append-nil}
 use Rattle.sk_isa.specs.declared.object.Object.{Object}
 use Rattle.sk_main_fits.specs.StatementFits.{Judged, judge_step, judged_of}
 use Rattle.sk_main_fits.proofs.Emission.{judged_what}
-use Rattle.sk_main_runs.proofs.StatementNodes.{append-none}
 use Rattle.sk_main_scheme.specs.MainScheme.{Whole}
 use Rattle.sk_main_sound.proofs.Choices.{for_sound, if_else_sound, if_sound}
 use Rattle.sk_main_sound.proofs.ContainerStatements.{call_sound, make_sound, poke_sound}
@@ -51,7 +51,7 @@ module _ (object : Object) (depth : ℕ) (functions : List (List ℕ × Known)) 
     grows = record {
       at = λ st. omega arith;
       scope = λ st. ((name, Whole (length st.containers) ty) ∷ [], refl);
-      slots = λ st. ([], sym (append-none st.slots));
+      slots = λ st. ([], sym (append-nil st.slots));
       containers = λ st. (record { name = name; kind = kind; ty = ty } ∷ [], refl);
       light = λ e st. let no : ⊥ = cc in absurd no;
       step = λ e st. let no : ⊥ = cc in absurd no;

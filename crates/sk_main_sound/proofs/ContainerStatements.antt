@@ -1,7 +1,7 @@
 -- The code of statements about containers: one is made, an element is written, and an instance is called.
 use Rattle.std.proofs.Common.{◌≡◌, ℕ, suc, ◌+◌, ◌≤◌, List, [], ◌∷◌, ◌++◌, length, map, reverse, take, drop, All, Option, Some, None, pos, slice_get, refl, sym, ap, ◌∙◌, subst, arith, length-append}
 use Rattle.std.proofs.lemmas.Bool.{and_from}
-use Rattle.std.proofs.lemmas.List.{length-map, length-reverse, length-take-le, take-append-drop}
+use Rattle.std.proofs.lemmas.List.{length-map, length-reverse, length-take-le, take-append-drop, append-nil}
 use Rattle.std.proofs.lemmas.List.Elements.{All-nil, All-cons}
 use Rattle.std.specs.Prelude.{true, false, Bool, ◌&&◌, ◌||◌, ◌==◌}
 use Rattle.sk_arguments.specs.Operands.{uniforms_taken}
@@ -16,7 +16,6 @@ use Rattle.sk_main_fits.specs.Fits.{fits, all_fit, is_whole}
 use Rattle.sk_main_fits.specs.StatementFits.{Judged, all_whole, call_fits, container_types, judge_step, names_whole}
 use Rattle.sk_main_names.proofs.Lists.{drop-map, size-dropped, take-map}
 use Rattle.sk_main_names.proofs.Tests.{made_few, number_itself, poked_parts, same_number, whole_is}
-use Rattle.sk_main_runs.proofs.StatementNodes.{append-none}
 use Rattle.sk_main_scheme.specs.MainScheme.{Around, Emitting, Made, Named, Number, Whole, Called, Standing, around_at, container_named, containers_of, do_code, do_depth, main_leaves, main_piece, make_code, of_instance, operands_of, poke_code, taking, type_in, uniforms_code}
 use Rattle.sk_main_sound.proofs.Expressions.{HasKnown, IsSound as IsSoundValue, arguments_stretch, expression_sound, expressions_sound, own_types, parts_high, places_stretch, wanted_value}
 use Rattle.sk_main_sound.proofs.Parts.{Part, counted_part, taking_part}
@@ -179,7 +178,7 @@ module _ (object : Object) (depth : ℕ) (functions : List (List ℕ × Known)) 
     grows = record {
       at = λ st. omega arith;
       scope = λ st. ((name, Whole (length st.containers) ty) ∷ [], refl);
-      slots = λ st. ([], sym (append-none st.slots));
+      slots = λ st. ([], sym (append-nil st.slots));
       containers = λ st. (record { name = name; kind = kind; ty = ty } ∷ [], refl);
       light = λ e st. let no : ⊥ = cc in absurd no;
       step = λ e st. let no : ⊥ = cc in absurd no;
@@ -318,7 +317,7 @@ module _ (object : Object) (depth : ℕ) (functions : List (List ℕ × Known)) 
   call_sounds name arguments st fit placed holds low =
       let a = around_at functions st in
       let code : List Instr = do_code name arguments a st.at in (
-        subst (λ (l : List Instr). Part object depth st.at l (st.at + length l) (live_in st.scope) (live_in st.scope)) (sym (append-none code))
+        subst (λ (l : List Instr). Part object depth st.at l (st.at + length l) (live_in st.scope) (live_in st.scope)) (sym (append-nil code))
             (call_part (bound_to name st.scope) arguments st placed.scoped fit low st.at),
         record { scoped = placed.scoped; below = placed.below },
       )

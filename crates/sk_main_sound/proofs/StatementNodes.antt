@@ -1,5 +1,6 @@
 -- The code of statements of main, from the code of their parts: what is asked, sequences, and blocks.
 use Rattle.std.proofs.Common.{◌≡◌, ℕ, ◌+◌, ◌-◌, ◌≤◌, List, [], ◌∷◌, ◌++◌, length, take, Some, slice_get, refl, sym, ap, ◌∙◌, subst, arith, append_assoc, length-append}
+use Rattle.std.proofs.lemmas.List.{append-nil}
 use Rattle.std.proofs.Math.Seq.{take-append_seam}
 use Rattle.std.specs.Prelude.{true, false, Bool, not, ◌&&◌, ◌||◌}
 use Rattle.sk_base.specs.declared.number.Ty.{Ty}
@@ -7,7 +8,6 @@ use Rattle.sk_isa.specs.declared.code.Instr.{Instr}
 use Rattle.sk_isa.specs.declared.object.Object.{Object}
 use Rattle.sk_main_code.specs.MainSoundness.{main_scalar}
 use Rattle.sk_main_fits.specs.StatementFits.{Judged, Test, all_emits, sequence_fits, behind_line}
-use Rattle.sk_main_runs.proofs.StatementNodes.{append-none}
 use Rattle.sk_main_scheme.specs.MainScheme.{Emitted, Emitting, Standing, all_emitted, block_emitted, counted, dropped, then_emitted}
 use Rattle.sk_main_sound.proofs.Parts.{Part, counted_part, drops_part, left_live, nothing_part, part_same, then_part}
 use Rattle.sk_main_sound.proofs.Scopes.{Scope, AreBelow, InScope, below_wider, live_append, live_in, live_left}
@@ -66,8 +66,8 @@ module _ (object : Object) (depth : ℕ) (functions : List (List ℕ × Known)) 
   grows_same judged at scope slots containers = record {
     at = at;
     scope = λ st. ([], scope st);
-    slots = λ st. ([], slots st ∙ sym (append-none st.slots));
-    containers = λ st. ([], containers st ∙ sym (append-none st.containers));
+    slots = λ st. ([], slots st ∙ sym (append-nil st.slots));
+    containers = λ st. ([], containers st ∙ sym (append-nil st.containers));
     light = λ e st container. ap (λ (s : Scope). live_in s container) (scope st);
     step = λ e st. scope st;
   }

@@ -1,5 +1,6 @@
 -- The code of single statements of main, each a sound piece.
 use Rattle.std.proofs.Common.{◌≡◌, ℕ, suc, ◌+◌, ◌≤◌, List, [], ◌∷◌, ◌++◌, length, map, reverse, take, drop, All, Option, Some, None, refl, sym, ap, ◌∙◌, subst, arith, length-append}
+use Rattle.std.proofs.lemmas.List.{append-nil}
 use Rattle.std.proofs.Math.Seq.{drop-append_seam}
 use Rattle.std.proofs.lemmas.Bool.{le-leb}
 use Rattle.std.proofs.lemmas.List.Elements.{All-nil}
@@ -12,7 +13,6 @@ use Rattle.sk_isa.specs.declared.object.Object.{Object}
 use Rattle.sk_main_code.specs.MainSoundness.{left_in_main, lives_after, made_by, main_scalar, used_by}
 use Rattle.sk_main_fits.specs.Fits.{fits, is_number}
 use Rattle.sk_main_fits.specs.StatementFits.{Judged, behind_line, item_fits, items_fit, judge_step}
-use Rattle.sk_main_runs.proofs.StatementNodes.{append-none}
 use Rattle.sk_main_scheme.specs.MainScheme.{Emitting, Named, Number, Whole, Called, Standing, all_emitted, around_at, item_emitted, made_of, main_piece, named_type, store_code, taking, type_in}
 use Rattle.sk_main_sound.proofs.Expressions.{HasKnown, IsSound as IsSoundValue, expression_sound, wanted_value}
 use Rattle.sk_main_sound.proofs.Parts.{Part, counted_part, nothing_part, part_same, return_part, taking_part}
@@ -110,7 +110,7 @@ module _ (object : Object) (depth : ℕ) (functions : List (List ℕ × Known)) 
       at = λ st. omega arith;
       scope = λ st. ((name, Number (length st.slots) ty) ∷ [], refl);
       slots = λ st. (ty ∷ [], refl);
-      containers = λ st. ([], sym (append-none st.containers));
+      containers = λ st. ([], sym (append-nil st.containers));
       light = λ is st container. or_nothing (live_in st.scope container);
       step = λ is st. let no : ⊥ = cc in absurd no;
     };
@@ -232,8 +232,8 @@ module _ (object : Object) (depth : ℕ) (functions : List (List ℕ × Known)) 
     grows = record {
       at = λ st. omega arith;
       scope = λ st. ((instance.name, Called (made_of functions (length st.instances) instance)) ∷ [], refl);
-      slots = λ st. ([], sym (append-none st.slots));
-      containers = λ st. ([], sym (append-none st.containers));
+      slots = λ st. ([], sym (append-nil st.slots));
+      containers = λ st. ([], sym (append-nil st.containers));
       light = λ e st. let no : ⊥ = cc in absurd no;
       step = λ e st. let no : ⊥ = cc in absurd no;
     };

@@ -1,5 +1,5 @@
 -- How many cells a part of a call needs in the memory of its rank, and whether a call fits.
-use Rattle.std.specs.Prelude.{ℕ, ◌+◌, ◌-◌, ◌*◌, ◌==◌, ◌&&◌, nat_le, min, Bool, if◌then◌else◌, List, [], ◌∷◌, length, map, flat_map, sum, Some, None, slice_index_or, unwrap_or}
+use Rattle.std.specs.Prelude.{ℕ, ◌+◌, ◌-◌, ◌*◌, ◌==◌, ◌&&◌, nat_le, min, Bool, if◌then◌else◌, List, [], ◌∷◌, length, map, flat_map, take, sum, Some, None, slice_index_or, unwrap_or}
 use Rattle.std.specs.List.{list_all, list_any}
 use Rattle.sk_base.specs.Shape.{cells_of}
 use Rattle.sk_base.specs.declared.choice.Variant.TheVariants.{Cluster}
@@ -58,10 +58,11 @@ distinct_stores [] = []
 distinct_stores (store ∷ stores) =
     if list_any (λ other. other == store) stores then distinct_stores stores else store ∷ distinct_stores stores
 
--- What a recorded Map needs, which is computed tile by tile: a tile of each distinct operand, and of the result.
+-- What a recorded Map needs, which is computed tile by tile: a tile of each distinct element argument, and of the result.
 abbrev pub tile_need : SizedCall → (tile : ℕ) → ℕ
 tile_need call tile =
-    (length (distinct_stores (stores_of call.operands)) + 1) * min tile (cells_of (unwrap_or call.result []))
+    (length (distinct_stores (stores_of (take call.elements call.operands))) + 1)
+    * min tile (cells_of (unwrap_or call.result []))
 
 -- a call fits in ranks of this capacity: it is run at once in so many parts, or it is recorded and computed tile by tile
 abbrev pub fits : (recorded : Bool) → (tile capacity : ℕ) → SizedCall → (parts : ℕ) → Bool

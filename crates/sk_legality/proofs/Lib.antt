@@ -1,0 +1,4 @@
+pub mod Examples
+pub mod ExampleTrace
+pub mod States
+pub mod Totals

@@ -1,0 +1,5 @@
+pub mod CallLines
+pub mod KernelLines
+pub mod KernelValues
+pub mod Legality
+pub mod Replay

@@ -1,4 +1,5 @@
 pub mod Examples
 pub mod ExampleTrace
+pub mod Faults
 pub mod States
 pub mod Totals

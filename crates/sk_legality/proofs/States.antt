@@ -1,12 +1,12 @@
 -- Legality does not depend on cells: whatever kernels write, the same steps are legal, and the states are the same.
 use Rattle.std.proofs.lemmas.Option.{none-some}
 use Rattle.std.specs.Prelude.{⊤}
-use Rattle.std.proofs.Common.{◌-◌, ◌↔◌, zero, suc, take, slice_get, slice_index_or, ◌≡◌, ◌==◌, ◌&&◌, ◌+◌, ℕ, ℤ, List, [], ◌∷◌, length, Bool, true, false, cond, Option, Some, None, IsSomeAnd, option_map, refl, sym, subst, ap, pos}
+use Rattle.std.proofs.Common.{◌-◌, ◌↔◌, slice_get, slice_index_or, ◌≡◌, ◌==◌, ◌&&◌, ◌+◌, ℕ, ℤ, List, [], ◌∷◌, length, Bool, true, false, cond, Option, Some, None, IsSomeAnd, option_map, refl, sym, subst, ap, pos}
 use Rattle.sk_isa.specs.declared.object.Object.{Object}
 use Rattle.sk_isa.specs.declared.object.Plan.{Plan}
 use Rattle.sk_legality.specs.CallLines.{MayCall}
 use Rattle.sk_legality.specs.KernelLines.{KernelLine, CallKernel, MayRun, kernel_of, first_written, written_end}
-use Rattle.sk_legality.specs.Legality.{IsJudged, IsLegal, IsLegalStep, IsIllegalAt, after_giving, after_states, states_after, writes_results}
+use Rattle.sk_legality.specs.Legality.{IsJudged, IsLegal, IsLegalStep, after_giving, states_after, writes_results}
 use Rattle.sk_legality.specs.Replay.{after_kernel, replayed, results_of}
 use Rattle.sk_spaces.specs.Machine.{Machine, Message, Home, MemoryLine, CallLine, CopyState, unused, live, freed, flying, delivered, start, after_change, spoilt_fate, do_overlap, writes_at, sends_at, frees_at, delivers_it}
 use Rattle.sk_spaces.specs.Rules.{IsThere, CanCopy, HasRoom, AreLegalBy, after_by, after_all_by}
@@ -279,14 +279,3 @@ legal-by-replay object trace = (
 -- replay leads to the states by which legality was judged
 pub replay-has-the-states : (object : Object) (trace : List Step) → IsAlike (states_after trace) (replayed object trace)
 replay-has-the-states object trace = states-alike no_cells (results_of object) trace start start same-start
-
--- ---- a legal trace has no step that is not legal
-
-all-legal : (object : Object) (trace : List Step) (m : Machine) (before : ℕ) → AreLegalBy (IsJudged object) after_states m trace
-    → IsSomeAnd (slice_get trace before) (λ step. IsLegalStep object (after_all_by after_states m (take before trace)) step → ⊥) → ⊥
-all-legal object [] m before legal fault = fault
-all-legal object (step ∷ steps) m zero legal fault = fault legal.0
-all-legal object (step ∷ steps) m (suc before) legal fault = all-legal object steps (after_by after_states m step) before legal.1 fault
-
-pub legal-has-no-fault : (object : Object) (trace : List Step) (number : ℕ) → IsLegal object trace → IsIllegalAt object trace number → ⊥
-legal-has-no-fault object trace number legal fault = all-legal object trace start (number - 1) legal fault.here

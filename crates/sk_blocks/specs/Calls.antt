@@ -1,5 +1,5 @@
 -- A call with the sizes of what it works on.
-use Rattle.std.specs.Prelude.{ℕ, List, [], map, take, Option}
+use Rattle.std.specs.Prelude.{ℕ, List, map, take, Option}
 use Rattle.sk_formula.specs.Calls.{Sizes}
 use Rattle.sk_tree.specs.declared.settings.Settings.{Settings}
 use Rattle.sk_tree.specs.declared.tree.Skeleton.{Skeleton}

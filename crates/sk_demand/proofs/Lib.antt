@@ -1,3 +1,5 @@
 pub mod Examples
 pub mod Fixtures
+pub mod FollowsExamples
+pub mod RunExamples
 pub mod WorkExamples

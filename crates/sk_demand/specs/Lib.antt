@@ -2,5 +2,8 @@ pub mod Demand
 pub mod Follows
 pub mod OwnSteps
 pub mod Pieces
+pub mod Reads
+pub mod Retiring
+pub mod Thrift
 pub mod Versions
 pub mod Work

@@ -224,9 +224,19 @@ totals_sent call count = elim call.skeleton [
   ]
 ]
 
--- how many totals a call has in so many parts: one for each part where it folds to a number, and where a Scan has more than one
+-- how many totals a call has in so many parts: one for each part where its value is a number, and where a Scan has more than one
 abbrev pub total_count : SizedCall → (count : ℕ) → ℕ
 total_count call count = elim call.skeleton [
   | Scan ↦ if nat_lt 1 count then count else 0
   | _ ↦ elim call.result [ Some result ↦ 0 | None ↦ count ]
 ]
+
+-- ---- the totals of a call that is run at once by a variant in so many parts
+
+abbrev pub call_totals : Variant → (parts : ℕ) → SizedCall → ℕ
+call_totals variant parts call = total_count call (part_count variant parts call)
+
+-- only ranks send totals
+abbrev pub call_sends : Variant → (parts : ℕ) → SizedCall → List TotalSent
+call_sends Cluster parts call = totals_sent call (part_count Cluster parts call)
+call_sends variant parts call = []

@@ -1,10 +1,12 @@
 -- A compiled program, tables and events of which the worked examples are made.
 use Rattle.std.specs.Prelude.{ℕ, true, false, List, [], ◌∷◌, Some, codes}
 use Rattle.sk_base.specs.declared.choice.Variant.TheVariants.{Sequential, Chunked, Cluster}
+use Rattle.sk_base.specs.declared.number.Ty.TheVariants.{Int}
 use Rattle.sk_isa.specs.declared.object.Object.{Object}
 use Rattle.sk_isa.specs.declared.object.Plan.{Plan}
 use Rattle.sk_select.specs.declared.tuning.Tuning.{Tuning}
 use Rattle.sk_tree.specs.InstanceSettings.{default_settings}
+use Rattle.sk_tree.specs.declared.declared.Declared.{Declared}
 use Rattle.sk_tree.specs.declared.tree.Skeleton.{Skeleton}
 use Rattle.sk_tree.specs.declared.tree.Skeleton.TheVariants.{Map, Reduce, Scan}
 use Rattle.sk_world.specs.Events.{CallOf, Event, Mapped, Ran}
@@ -19,6 +21,10 @@ plan_of skeleton elements = record {
   variants = Sequential ∷ Chunked ∷ Cluster ∷ [];
 }
 
+-- a vector of ints
+abbrev vector : Declared
+vector = record { name = codes "v"; kind = 1; ty = Int }
+
 -- a Map of one element, a Map of two, a Reduce and a Scan, of a safe function
 abbrev pub object : Object
 object = record {
@@ -29,7 +35,7 @@ object = record {
   instances = plan_of Map 1 ∷ plan_of Map 2 ∷ plan_of Reduce 0 ∷ plan_of Scan 0 ∷ [];
   main = record { instrs = []; slots = 0; depth = 0 };
   inputs = [];
-  containers = [];
+  containers = vector ∷ vector ∷ vector ∷ vector ∷ [];
   names = [];
 }
 

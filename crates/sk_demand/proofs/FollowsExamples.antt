@@ -42,7 +42,7 @@ follows = (
     called ++ computed,
     0,
     refl,
-    (0, _, _, refl, refl, (refl, refl, refl), record { step = refl; sized = refl }),
+    (0, _, _, refl, refl, (refl, refl, refl), record { step = refl; sized = refl; typed = refl }),
     (
       called,
       computed,
@@ -57,7 +57,7 @@ follows = (
         new = refl;
         flushed = refl;
         told = refl;
-        bound = record { step = refl; sized = refl };
+        bound = record { step = refl; sized = refl; typed = refl };
       },
       (
         computed,

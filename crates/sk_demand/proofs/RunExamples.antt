@@ -51,7 +51,7 @@ follows = (
     reduced,
     0,
     refl,
-    (0, _, _, refl, refl, (refl, refl, refl), record { step = refl; sized = refl }),
+    (0, _, _, refl, refl, (refl, refl, refl), record { step = refl; sized = refl; typed = refl }),
     (
       reduced,
       [],

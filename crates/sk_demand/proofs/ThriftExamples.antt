@@ -98,8 +98,12 @@ comes all = absurd (cc (all.owed 2 0))
 pub back-and-free : is_freed_before_kernel 2 (line.Read 0 0 1 ∷ line.Free 2 ∷ []) ≡ true
 back-and-free = refl
 
-pub back-and-stay : is_freed_before_kernel 2 (line.Read 0 0 1 ∷ []) ≡ false
+pub back-and-stay : is_freed_before_kernel 2 (line.Read 0 0 1 ∷ line.Kernel 0 Element 0 0 1 0 None [] ∷ []) ≡ false
 back-and-stay = refl
+
+-- and may stay where no kernel comes
+pub back-and-end : is_freed_before_kernel 2 (line.Read 0 0 1 ∷ []) ≡ true
+back-and-end = refl
 
 -- the next copy that is made in the space of rank 1 has 4 cells
 pub room-wanted : next_room 1 (line.Alloc 4 0 2 0 8 ∷ line.Alloc 5 0 1 4 8 ∷ line.Alloc 6 0 1 0 4 ∷ []) ≡ Some 4

@@ -58,8 +58,8 @@ abbrev pub runs_of : (call : ℕ) → List KernelRun → List CallRun
 runs_of call = map (λ (run : KernelRun). record { call = call; run = run })
 
 -- the step is this kernel: its call, kind, part and range, and it writes in this space
-abbrev pub IsRun : CallRun → StepIn → Type 0
-IsRun wanted at = elim at.step [
+abbrev pub IsKernelRun : CallRun → StepIn → Type 0
+IsKernelRun wanted at = elim at.step [
   | line.Kernel call kind part lo hi out trapped inputs ↦
       (call ≡ wanted.call) × (kind ≡ wanted.run.kind) × (part ≡ wanted.run.part) × (lo ≡ wanted.run.lo) × (hi ≡ wanted.run.hi)
       × IsThere (at.before.copies out) (λ (home : Home). home.space ≡ wanted.run.space)
@@ -84,7 +84,7 @@ pub record AreRuns (wanted : List CallRun) (steps : List StepIn) : Type 0 where
   pub order : List CallRun
   pub once : IsPermutation wanted order
   pub joins : (total : ℕ) → filter (joins_total total) order ≡ filter (joins_total total) wanted
-  pub each : AllZip IsRun order steps
+  pub each : AllZip IsKernelRun order steps
 
 -- the steps are the kernels of a call, one kind after another
 abbrev pub AreKinds : (call : ℕ) → List (List KernelRun) → List StepIn → Type 0

@@ -12,6 +12,7 @@ use Rattle.sk_spaces.specs.Machine.{Machine, CallLine, StoreLine}
 use Rattle.sk_spaces.specs.declared.step.Step.{Step}
 use Rattle.sk_spaces.specs.declared.step.Step.TheVariants as line
 use Rattle.sk_tree.specs.InstanceSettings.{default_settings}
+use Rattle.sk_tree.specs.declared.declared.Declared.{Declared}
 use Rattle.sk_tree.specs.declared.settings.Settings.{Settings}
 use Rattle.sk_world.specs.Events.{CallOf, Event, Made, Taken, Mapped, Ran, Read, Poked, Left, Dumped}
 use Rattle.sk_demand.specs.Demand.{VersionTile, demand_of}
@@ -30,20 +31,22 @@ pub record Standing : Type 0 where
 abbrev pub IsNew : Standing → (store : ℕ) → Type 0
 IsNew standing store = standing.machine.stores store ≡ None
 
--- the step binds a container to a store of these sizes
-pub record Binds (container store : ℕ) (sizes : List ℕ) (at : StepIn) : Type 0 where
+-- the step binds a container to a store of these sizes, which has cells of the container's type
+pub record Binds (object : Object) (container store : ℕ) (sizes : List ℕ) (at : StepIn) : Type 0 where
   pub step : at.step ≡ line.Bind container store
   pub sized : IsSomeAnd (at.before.stores store) (λ (told : StoreLine). told.shape ≡ sizes)
+  pub typed : IsSomeAnd (at.before.stores store) (λ (told : StoreLine).
+      IsSomeAnd (slice_get object.containers container) (λ (declared : Declared). told.ty ≡ declared.ty))
 
 -- ---- a declaration, or an input
 
 -- the container gets a new store, where its cells are written first if it has some
-abbrev pub IsStored : Standing → (container : ℕ) → (sizes : List ℕ) → (cells : List ℤ) → List StepIn → Type 0
-IsStored standing container sizes [] steps =
-    (store : ℕ) × (bind : StepIn) × (steps ≡ bind ∷ []) × IsNew standing store × Binds container store sizes bind
-IsStored standing container sizes (cell ∷ cells) steps =
+abbrev pub IsStored : Object → Standing → (container : ℕ) → (sizes : List ℕ) → (cells : List ℤ) → List StepIn → Type 0
+IsStored object standing container sizes [] steps =
+    (store : ℕ) × (bind : StepIn) × (steps ≡ bind ∷ []) × IsNew standing store × Binds object container store sizes bind
+IsStored object standing container sizes (cell ∷ cells) steps =
     (store : ℕ) × (write : StepIn) × (bind : StepIn) × (steps ≡ write ∷ bind ∷ []) × IsNew standing store
-    × WritesWhole store (cell ∷ cells) write × Binds container store sizes bind
+    × WritesWhole store (cell ∷ cells) write × Binds object container store sizes bind
 
 -- ---- calls and their kernels
 
@@ -114,7 +117,7 @@ module _ (object : Object) (table : Tuning) (standing : Standing) where
     pub flushed : IsFlush (demand_of object table.tile table.lineage standing.state (Mapped call result)).flushes
         (demanded_runs (Mapped call result)) flush
     pub told : TellsCall call default_settings true (Some result) (Some store) number named
-    pub bound : Binds result store (sizes_at result) bind
+    pub bound : Binds object result store (sizes_at result) bind
 
   -- ---- a call that is run at once
 
@@ -142,7 +145,7 @@ module _ (object : Object) (table : Tuning) (standing : Standing) where
   IsEnd false true (Some result) store kernels steps = steps ≡ []
   IsEnd false false (Some result) None kernels steps = ⊥
   IsEnd false false (Some result) (Some store) kernels steps =
-      (bind : StepIn) × (steps ≡ bind ∷ []) × Binds result store (sizes_at result) bind
+      (bind : StepIn) × (steps ≡ bind ∷ []) × Binds object result store (sizes_at result) bind
   IsEnd false keeps None store [] steps = steps ≡ []
   IsEnd false keeps None store (kernel ∷ kernels) steps = (read : StepIn) × (steps ≡ read ∷ []) × ReadsTotal (kernel ∷ kernels) read
 
@@ -181,7 +184,7 @@ module _ (object : Object) (table : Tuning) (standing : Standing) where
     pub new : IsNew standing store
     pub each : All (Clones (standing.machine.bound container) store) clones
     pub all : (index : ℕ) → index < cells_of (sizes_at container) → Any (ClonesIndex index) clones
-    pub bound : Binds container store (sizes_at container) bind
+    pub bound : Binds object container store (sizes_at container) bind
 
   abbrev pub IsPlaced : (copies : Bool) → (container : ℕ) → (store : Option ℕ) → List StepIn → Type 0
   IsPlaced false container store steps = (steps ≡ []) × (store ≡ standing.machine.bound container)
@@ -216,8 +219,8 @@ module _ (object : Object) (table : Tuning) (standing : Standing) where
 
   -- the steps that an event makes; the number is that of its call, where it is one
   abbrev pub IsPiece : Event → (number : ℕ) → List StepIn → Type 0
-  IsPiece (Made container sizes fill) number steps = IsStored standing container sizes (replicate (cells_of sizes) fill) steps
-  IsPiece (Taken container sizes cells) number steps = IsStored standing container sizes cells steps
+  IsPiece (Made container sizes fill) number steps = IsStored object standing container sizes (replicate (cells_of sizes) fill) steps
+  IsPiece (Taken container sizes cells) number steps = IsStored object standing container sizes cells steps
   IsPiece (Mapped call result) number steps = IsRecorded call result number steps
   IsPiece (Ran call settings result trapped) number steps = IsRunAtOnce call settings result trapped number steps
   IsPiece (Read container index) number steps = IsElementRead container index steps

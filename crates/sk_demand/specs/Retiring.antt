@@ -45,7 +45,7 @@ pub record LiesIn (size tile : ℕ) (home : Home) : Type 0 where
 abbrev pub EachCopy : Machine → (store : ℕ) → ((copy : ℕ) → Home → Type 0) → Type 0
 EachCopy m store P = (copy : ℕ) (home : Home) → m.copies copy ≡ live home → home.store ≡ store → P copy home
 
--- while a version is not complete, each of its blocks lies in one tile
+-- while not all tiles of a version were computed, each of its blocks lies in one tile
 abbrev pub KeepsTiles : Machine → Version → Type 0
 KeepsTiles m version =
     is_complete (tile_in m) version ≡ false → EachCopy m version.number (λ copy home. LiesIn (tile_in m) (home.lo / tile_in m) home)
@@ -59,7 +59,8 @@ abbrev pub IsRetired : Machine → Version → (tile : ℕ) → Type 0
 IsRetired m version tile = EachCopy m version.number (λ copy home.
     (LiesIn (tile_in m) tile home → ⊥) × ((index : ℕ) → index / tile_in m ≡ tile → m.marks copy index ≡ stale))
 
--- A version that no container is bound to has retired each tile but this one that every kept version which reads it has.
+-- A version that no container is bound to has retired each tile but this one that every kept version which reads it has; where
+-- none reads it, each tile but this one.
 abbrev pub RetiresTiles : Machine → State → (tile : ℕ) → Version → Type 0
 RetiresTiles m state tile version =
     is_bound state version.number ≡ false → (other : ℕ) → other ≢ tile

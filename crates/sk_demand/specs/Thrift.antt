@@ -52,8 +52,9 @@ AreDelivered m = (number : ℕ) → IfSome (m.messages number) (λ (message : Me
 
 -- ---- a copy whose cells went back goes
 
+-- the copy is freed before the next kernel, where one comes
 abbrev pub is_freed_before_kernel : (copy : ℕ) → List Step → Bool
-is_freed_before_kernel copy [] = false
+is_freed_before_kernel copy [] = true
 is_freed_before_kernel copy (line.Free other ∷ later) = other == copy || is_freed_before_kernel copy later
 is_freed_before_kernel copy (line.Kernel call kind part lo hi out trapped inputs ∷ later) = false
 is_freed_before_kernel copy (step ∷ later) = is_freed_before_kernel copy later

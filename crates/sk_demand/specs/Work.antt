@@ -19,7 +19,8 @@ use Rattle.sk_demand.specs.Versions.{State, no_versions, binding_at, version_of}
 
 -- ---- how a call is run
 
--- a call with the sizes of what it works on; each version has a store of its own, and its number stands for that
+-- a call with the sizes of what it works on; each version has a store of its own, which it keeps as long as its number, so that
+-- the number stands for the store
 abbrev pub sized_call : Plan → State → CallOf → Settings → (result : Option ℕ) → SizedCall
 sized_call plan state call settings result = record {
   skeleton = plan.skeleton;
@@ -61,14 +62,14 @@ module _ (object : Object) (table : Tuning) where
   run_ranges state event = []
 
   -- the ranges of the kernels of an event: one for each tile that it newly demands, and those of its call
-  abbrev pub kernel_ranges_of : State → Event → List Part
-  kernel_ranges_of state event =
+  abbrev pub result_ranges_of : State → Event → List Part
+  result_ranges_of state event =
       map (indices_of table.tile state) (demand_of object table.tile table.lineage state event).tiles ++ run_ranges state event
 
-  abbrev pub kernel_ranges_from : State → List Event → List Part
-  kernel_ranges_from state [] = []
-  kernel_ranges_from state (event ∷ events) =
-      kernel_ranges_of state event ++ kernel_ranges_from (after_event object table.tile table.lineage state event) events
+  abbrev pub result_ranges_from : State → List Event → List Part
+  result_ranges_from state [] = []
+  result_ranges_from state (event ∷ events) =
+      result_ranges_of state event ++ result_ranges_from (after_event object table.tile table.lineage state event) events
 
 -- how many kernels there are, and how many cells their ranges have together
 pub record Work : Type 0 where
@@ -77,7 +78,7 @@ pub record Work : Type 0 where
 
 abbrev pub work_of : Object → Tuning → List Event → Work
 work_of object table events =
-    let ranges : List Part = kernel_ranges_from object table no_versions events in
+    let ranges : List Part = result_ranges_from object table no_versions events in
     record { kernels = length ranges; cells = sum (map (λ (part : Part). part.hi - part.lo) ranges) }
 
 -- ---- the same events where no call is recorded

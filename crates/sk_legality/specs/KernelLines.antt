@@ -5,7 +5,7 @@ use denote.Enum.Bare.{sameb}
 use Rattle.sk_base.specs.Shape.{cells_of}
 use Rattle.sk_blocks.specs.Calls.{SizedCall}
 use Rattle.sk_blocks.specs.Choices.{result_cells}
-use Rattle.sk_blocks.specs.Kernels.{KernelRun, call_kernels, tile_kernel, part_count, total_count, reads_index, totals_read}
+use Rattle.sk_blocks.specs.Kernels.{KernelRun, call_kernels, tile_kernel, call_totals, reads_index, totals_read}
 use Rattle.sk_isa.specs.declared.object.Object.{Object}
 use Rattle.sk_isa.specs.declared.object.Plan.{Plan}
 use Rattle.sk_legality.specs.CallLines.{first_signature, named_stores, sized_call}
@@ -78,7 +78,7 @@ written_end line = elim line.kind [ Join ↦ suc line.part | Element ↦ line.hi
 
 -- how many totals the call has
 abbrev pub totals_of : CallKernel → ℕ
-totals_of kernel = total_count kernel.sized (part_count kernel.call.variant kernel.call.parts kernel.sized)
+totals_of kernel = call_totals kernel.call.variant kernel.call.parts kernel.sized
 
 -- a store may have the totals of the call: it has as many cells of the type of its value, and is none of the stores that the
 -- call names

@@ -1,5 +1,5 @@
 -- Steps of the parser, at places given by their parts.
-use Rattle.std.proofs.Common.{◌≡◌, ℕ, ◌+◌, ◌<◌, ◌≤◌, Bool, true, false, nat_lt, List, [], ◌∷◌, length, map, ℤ, Some, None, IsTrue, refl, arith, rules}
+use Rattle.std.proofs.Common.{◌≡◌, ℕ, ◌+◌, ◌<◌, ◌≤◌, false, List, [], ◌∷◌, length, map, ℤ, None, IsTrue, refl, arith}
 use Rattle.std.proofs.lemmas.Bool.{not-true, or_parts}
 use Rattle.std.specs.List.{list_any}
 use Rattle.sk_base.specs.declared.number.Ty.{Ty}
@@ -11,14 +11,10 @@ use Rattle.sk_grammar.specs.Signs.{meant_by}
 use Rattle.sk_names.specs.Words.{is_name, reserved_words}
 use Rattle.sk_tokens.specs.declared.token.Sign.TheVariants as sign
 use Rattle.sk_tokens.specs.declared.token.Token.{Token}
-use Rattle.sk_reading.specs.Reading.{Place, Read, keyword_words, keyword_of, front, advance, front_word, name_of, name, number, ty, count_node}
+use Rattle.sk_reading.specs.Reading.{Place, Read, keyword_words, keyword_of, front, advance, front_word, name_of, name, number, ty}
 
 abbrev pub at : List Token → (nodes instances : ℕ) → Place
 at tokens nodes instances = record { rest = tokens; nodes = nodes; instances = instances }
-
-pub count-ok : (r : List Token) (n i : ℕ) → n < 1024 → count_node (at r n i) ≡ Read (tt, at r (n + 1) i)
-unfolding count_node
-count-ok r n i below = let yes : nat_lt n 1024 ≡ true = search rules in rw yes refl
 
 pub meant-none : {A : Type 0} (entries : List (List ℕ × A)) (w : List ℕ)
     → list_any (λ other. same_bytes other w) (map (λ entry. entry.0) entries) ≡ false → meant_by entries w ≡ None

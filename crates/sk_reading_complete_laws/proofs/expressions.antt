@@ -1,4 +1,3 @@
-pub mod Chains
 pub mod Ends
-pub mod Readable
 pub mod Starts
+pub mod Tokens

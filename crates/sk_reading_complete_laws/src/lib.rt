@@ -1,7 +1,9 @@
 //! The law that each lawful spelling that keeps the limits is read, as the program that it spells.
 //!
-//! - `proofs/Steps`: steps at a place whose next token is known.
-//! - `proofs/expressions`, `proofs/statements`, `proofs/Programs`: the law for each of them.
+//! - `proofs/Steps`: steps at a place whose next token is known. `proofs/expressions`, `proofs/statements`, `proofs/Parameters`:
+//!   what spellings begin and end with, and the parts that no limit stops.
+//! - `proofs/spelled`: a program is read as far as its marks keep the limits, and stops at the first one that does not.
+//! - `proofs/Within`: what keeps the limits has no mark that exceeds one. `proofs/Programs`: the laws.
 #![tactic(auto)]
 
 ghost use Rattle.std.specs.Prelude.{◌≡◌, List, Some};

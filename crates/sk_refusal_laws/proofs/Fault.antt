@@ -17,9 +17,9 @@ use Rattle.sk_reading.specs.ReadingPrograms.{functions, RefusesAt}
 use Rattle.sk_refusal_laws.proofs.Local.{Under, Related, Both, Neither, Apart, Past, Counts}
 use Rattle.sk_refusal_laws.proofs.Programs.{programs-alike, functions-within}
 use Rattle.sk_refusal_laws.proofs.Refused.{split, regrouped, IsHidden, Halted, halts, halted-exceeds, halted-fine, fine-found, fine-not_exceeded, last-found, none-begins, none-reads}
-use Rattle.sk_refusal_laws.proofs.spelled.Judged.{Judged, Goes, Halts, First, TooDeep, OneTooMany, below-or}
-use Rattle.sk_refusal_laws.proofs.spelled.Lengths.{definitions-length}
-use Rattle.sk_refusal_laws.proofs.spelled.Programs.{program-judged}
+use Rattle.sk_reading_complete_laws.proofs.spelled.Judged.{Judged, Goes, Halts, First, TooDeep, OneTooMany, below-or}
+use Rattle.sk_reading_complete_laws.proofs.spelled.Lengths.{definitions-length}
+use Rattle.sk_reading_complete_laws.proofs.spelled.Programs.{program-judged}
 use Rattle.sk_refusal_laws.proofs.viable.Leads.{EndsPlain}
 use Rattle.sk_refusal_laws.proofs.viable.Programs.{Viable, program-viable}
 

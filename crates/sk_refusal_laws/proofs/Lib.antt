@@ -10,5 +10,4 @@ pub mod Refused
 mod Statements
 mod Steps
 mod Strict
-mod spelled
 mod viable

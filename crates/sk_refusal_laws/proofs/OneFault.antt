@@ -1,7 +1,7 @@
 -- A list of tokens has no two faults, and a program within the limits has none.
-use Rattle.std.proofs.Common.{◌≡◌, ◌⊎◌, inl, inr, ℕ, suc, ◌<◌, ◌≤◌, List, [], ◌∷◌, length, take, drop, Some, refl, ap, sym, subst, ◌∙◌, arith}
+use Rattle.std.proofs.Common.{◌≡◌, ◌⊎◌, inl, inr, ℕ, suc, ◌<◌, ◌≤◌, List, [], length, take, drop, Some, refl, ap, sym, subst, ◌∙◌, arith}
 use Rattle.std.proofs.lemmas.List.{take-append-drop}
-use Rattle.sk_grammar.specs.Grammar.{Spelling, tokens_in}
+use Rattle.sk_grammar.specs.Grammar.{Spelling}
 use Rattle.sk_grammar.specs.Limits.{ReadsWithin}
 use Rattle.sk_refusals.specs.Marks.{Mark, Counted, marks_in}
 use Rattle.sk_refusals.specs.Refusals.{Continues, ExceedsIn, IsWrongAt, NoSyntax, TooMuch, IsRefusal, order_of}
@@ -9,18 +9,13 @@ use Rattle.sk_refusals.specs.declared.refusal.Limited.{Limited}
 use Rattle.sk_refusals.specs.declared.refusal.Refusal.{Refusal}
 use Rattle.sk_refusals.specs.declared.refusal.Refusal.TheVariants.{Syntax, Deep, Many}
 use Rattle.sk_tokens.specs.declared.token.Token.{Token}
-use Rattle.sk_tree.specs.declared.tree.Function.{Function}
 use Rattle.sk_tree.specs.declared.tree.Program.{Program}
-use Rattle.sk_reading.specs.Reading.{Place, Read}
-use Rattle.sk_reading.specs.ReadingPrograms.{functions}
-use Rattle.sk_reading_complete_laws.proofs.Programs.{not_refused}
-use Rattle.sk_reading_complete_laws.proofs.Steps.{at as place_at}
+use Rattle.sk_reading_complete_laws.proofs.Within.{program-fine}
 use Rattle.sk_reading_sound_laws.proofs.Steps.{some-is}
 use Rattle.sk_refusal_laws.proofs.Fault.{continues-less}
 use Rattle.sk_refusal_laws.proofs.Refused.{fine-found, fine-not_exceeded}
-use Rattle.sk_refusal_laws.proofs.spelled.Judged.{Judged, Goes, Halts, below-or}
-use Rattle.sk_refusal_laws.proofs.spelled.Lengths.{definitions-length}
-use Rattle.sk_refusal_laws.proofs.spelled.Programs.{program-judged}
+use Rattle.sk_reading_complete_laws.proofs.spelled.Judged.{below-or}
+use Rattle.sk_reading_complete_laws.proofs.spelled.Lengths.{definitions-length}
 
 abbrev counting : Limited → ℕ → Counted
 counting what number = record { what = what; number = number }
@@ -64,13 +59,9 @@ no-fault tokens program within refusal token is = none refusal token is.wrong
     goes-on n = record { lawful = within.lawful; behind = drop n tokens; tokens_are = within.tokens_are ∙ sym (take-append-drop n tokens) }
 
     fine : (other : Refusal) (at : ℕ) → at < length tokens → ExceedsIn other at within.spelling → ⊥
-    fine other at inside exceeds = let (m, j, judged) = program-judged within.spelling within.lawful in go (_, place_at [] m j) judged
-      where
-        go : (x : List Function × Place) → Judged (functions (tokens_in within.spelling)) (Read x) [] (marks_in within.spelling) → ⊥
-        go x (Goes read passes) =
-            fine-not_exceeded exceeds.mark other
-            (fine-found [] (marks_in within.spelling) passes at exceeds.mark (omega (arith, definitions-length 1 0 within.spelling, ap length within.tokens_are)) exceeds.found) exceeds.exceeds
-        go x (Halts stopped mark behind refused passes first) = not_refused tokens stopped (length (mark ∷ behind)) (ap functions (sym within.tokens_are) ∙ refused) program within
+    fine other at inside exceeds =
+        fine-not_exceeded exceeds.mark other
+        (fine-found [] (marks_in within.spelling) (program-fine within.spelling within.keeps) at exceeds.mark (omega (arith, definitions-length 1 0 within.spelling, ap length within.tokens_are)) exceeds.found) exceeds.exceeds
 
     none : (other : Refusal) (token : ℕ) → IsWrongAt tokens other token → ⊥
     none _ token (NoSyntax _ reaches (inl before)) = reaches.ends before (within.spelling, goes-on (suc token))

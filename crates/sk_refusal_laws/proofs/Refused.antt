@@ -17,9 +17,9 @@ use Rattle.sk_reading.specs.ReadingExpressions.{is_type}
 use Rattle.sk_reading.specs.ReadingPrograms.{functions, RefusesAt}
 use Rattle.sk_refusal_laws.proofs.Local.{Under, Related, Both, Neither, Apart, Past, Counts}
 use Rattle.sk_refusal_laws.proofs.Programs.{programs-alike, functions-within}
-use Rattle.sk_refusal_laws.proofs.spelled.Judged.{Judged, Goes, Halts, Passes, Here, Next, Fine, CountFits, First, TooDeep, OneTooMany}
-use Rattle.sk_refusal_laws.proofs.spelled.Lengths.{definitions-length}
-use Rattle.sk_refusal_laws.proofs.spelled.Programs.{program-judged}
+use Rattle.sk_reading_complete_laws.proofs.spelled.Judged.{Judged, Goes, Halts, Passes, Here, Next, Fine, CountFits, First, TooDeep, OneTooMany}
+use Rattle.sk_reading_complete_laws.proofs.spelled.Lengths.{definitions-length}
+use Rattle.sk_reading_complete_laws.proofs.spelled.Programs.{program-judged}
 
 -- ---- a token of a list
 

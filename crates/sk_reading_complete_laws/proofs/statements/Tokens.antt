@@ -12,10 +12,10 @@ use Rattle.sk_reading.specs.declared.next.Next.TheVariants as next
 use Rattle.sk_reading.specs.declared.keyword.Keyword.TheVariants as key
 use Rattle.sk_reading.specs.declared.update.Update.TheVariants.{Step}
 use Rattle.sk_reading.specs.Reading.{keyword_of, front_of, word_next, same_keyword, is_sign, is_keyword}
-use Rattle.sk_reading_complete_laws.proofs.expressions.Chains.{longer, arguments_longer}
 use Rattle.sk_reading_complete_laws.proofs.statements.Forms.{items-tokens, names-tokens, numbers-tokens}
 use Rattle.sk_reading_complete_laws.proofs.statements.Assignments.{is-update, step-update, target-name}
 use Rattle.sk_reading_complete_laws.proofs.Steps.{keyword-none}
+use Rattle.sk_reading_complete_laws.proofs.expressions.Tokens.{longer, arguments_longer}
 
 -- ---- each statement has a token
 

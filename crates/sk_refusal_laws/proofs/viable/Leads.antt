@@ -142,9 +142,6 @@ pub leads-done : {A B : Type 0} {Q : A → Type 0} {Q2 : B → Type 0} {D : Lang
 leads-done h made (Whole value q w is holds tokens goes) = Whole (h value) q w (ap (λ k. and_then k (λ a. pure (h a))) is) (made value holds) tokens goes
 leads-done h made (Part refusal left front fix rest is tokens goes shape) = Part refusal left front fix rest (ap (λ k. and_then k (λ a. pure (h a))) is) tokens goes shape
 
-pub leads-pure : {A : Type 0} (a : A) (p : Place) → Leads Nothing p (Read (a, p))
-leads-pure a p = Whole a p [] refl tt refl (λ r. refl)
-
 -- ---- single tokens
 
 -- a token is taken, or lacking

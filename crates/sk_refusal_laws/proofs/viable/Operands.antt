@@ -21,7 +21,7 @@ use Rattle.sk_reading.specs.Reading.{Place, Outcome, Read, Refused, Parser, and_
 use Rattle.sk_reading.specs.ReadingExpressions.{own, arguments, arguments_from, begins_conversion, conversion, parenthesized, prefixed, called, indexed, member, named_by, named, literal, bracketed, operand_by, operand}
 use Rattle.sk_reading_sound_laws.proofs.Steps.{lines_of, sign-takes, sees-sign}
 use Rattle.sk_refusal_laws.proofs.viable.Leads as leading
-use Rattle.sk_refusal_laws.proofs.viable.Leads.{Lang, Chain, Nothing, SignOf, NameOf, NumberOf, TypeOf, LeadsTo, Part, Leads, Default, default-chain, leads-then, leads-map, leads-done, leads-pure, leads-lacking, Fresh}
+use Rattle.sk_refusal_laws.proofs.viable.Leads.{Lang, Chain, Nothing, SignOf, NameOf, NumberOf, TypeOf, LeadsTo, Part, Leads, Default, default-chain, leads-then, leads-map, leads-done, leads-lacking, Fresh}
 use Rattle.sk_refusal_laws.proofs.viable.Tokens.{leads-expect, leads-name, leads-number, leads-ty, leads-sign, leads-opens, leads-counted, leads-prefix, name-here, number-here, type-here, front-of, leads-list, is-a}
 
 -- ---- languages of expressions

@@ -95,10 +95,6 @@ leads-ty p is = go (ty p) refl
         none (next.Keyword k) h stops = cc
         none other h stops = cc
 
--- a type between `<` and `>`
-abbrev pub AngleOf : Lang
-AngleOf = Chain (SignOf sign.Lt) (Chain TypeOf (SignOf sign.Gt))
-
 -- a token of the first, and what follows has to come
 typed-next : {B : Type 0} {other : Lang} (g : Ty → Parser B) (line : ℕ) (p : Place) → ((t : Ty) (q : Place) → Leads other q (g t q)) → Default other
     → (q : Place) → p.rest ≡ sign_at sign.Lt line ∷ q.rest → Leads (Chain (SignOf sign.Lt) (Chain TypeOf other)) p (and_then (ty q) g)

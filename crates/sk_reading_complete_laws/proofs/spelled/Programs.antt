@@ -16,11 +16,11 @@ use Rattle.sk_tree.specs.declared.tree.Param.{Param}
 use Rattle.sk_reading.specs.Reading.{Outcome, Read, Refused, Parser, and_then, front, advance, sees, after, expect, same_sign, front_line}
 use Rattle.sk_reading.specs.ReadingPrograms as reading
 use Rattle.sk_reading_complete_laws.proofs.expressions.Starts.{typed-is_type}
-use Rattle.sk_reading_complete_laws.proofs.Programs.{parameter-ok, parameter-begins, parameters-not_close, typed-not_end, definitions_longer, parameters_longer}
 use Rattle.sk_reading_complete_laws.proofs.Steps.{at, name-ok, ty-ok}
-use Rattle.sk_refusal_laws.proofs.spelled.Blocks.{block-judged}
-use Rattle.sk_refusal_laws.proofs.spelled.Judged.{Judged, Goes, Halts, Here, Fine, OneTooMany, plain, next, next_marks, judged-then, judged-trans, remarked, below-or}
-use Rattle.sk_refusal_laws.proofs.spelled.Lengths.{behind_first, parameter-marked, parameter-length, parameters-length, block-length, definition-length, definitions-length}
+use Rattle.sk_reading_complete_laws.proofs.spelled.Blocks.{block-judged}
+use Rattle.sk_reading_complete_laws.proofs.spelled.Judged.{Judged, Goes, Halts, Here, Fine, OneTooMany, plain, next, next_marks, judged-then, judged-trans, remarked, below-or}
+use Rattle.sk_reading_complete_laws.proofs.spelled.Lengths.{behind_first, parameter-marked, parameter-length, parameters-length, block-length, definition-length, definitions-length}
+use Rattle.sk_reading_complete_laws.proofs.Parameters.{parameter-ok, parameter-begins, parameters-not_close, typed-not_end, definitions_longer, parameters_longer}
 
 -- one more of a kind counts at a token
 counted_more : {A : Type 0} {o' : Outcome A} {rest : Marks} (what : Limited) (g : Unit {0} → Parser A) (depth found number n i : ℕ) (tokens : List Token) (behind : Marks) → depth ≤ 64 → suc found ≡ number

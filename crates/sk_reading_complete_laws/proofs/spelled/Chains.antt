@@ -11,9 +11,9 @@ use Rattle.sk_reading.specs.declared.reach.Reach.TheVariants.{Whole}
 use Rattle.sk_reading.specs.Reading.{Read, Parser, and_then, front, front_of, sees}
 use Rattle.sk_reading.specs.ReadingExpressions.{operand, more, operators, chosen, choice_from, below, arguments_from}
 use Rattle.sk_reading_complete_laws.proofs.expressions.Ends.{continues, Ends, ends_less, infix_ends, not_question}
-use Rattle.sk_reading_complete_laws.proofs.expressions.Chains.{longer}
 use Rattle.sk_reading_complete_laws.proofs.Steps.{at}
-use Rattle.sk_refusal_laws.proofs.spelled.Judged.{Judged, Goes, Here, judged-then, judged-trans}
+use Rattle.sk_reading_complete_laws.proofs.spelled.Judged.{Judged, Goes, Here, judged-then, judged-trans}
+use Rattle.sk_reading_complete_laws.proofs.expressions.Tokens.{longer}
 
 -- ---- what is shown of each expression
 

@@ -18,15 +18,15 @@ use Rattle.sk_reading.specs.Reading.{Read, front, front_of, advance, sees, after
 use Rattle.sk_reading.specs.ReadingExpressions.{choice, chosen, below, arguments, arguments_from, expression}
 use Rattle.sk_reading.specs.ReadingAssignments as reading
 use Rattle.sk_reading.proofs.Targets.{target_value, assigned-same, old-same}
-use Rattle.sk_reading_complete_laws.proofs.expressions.Chains.{longer}
 use Rattle.sk_reading_complete_laws.proofs.expressions.Ends.{Ends}
 use Rattle.sk_reading_complete_laws.proofs.statements.Assignments.{update_for, assigns-update, step-update, opens_place, is-update, target-name, target-variable, step-ok, last_nodes}
 use Rattle.sk_reading_complete_laws.proofs.statements.Forms.{by-type, not-type}
 use Rattle.sk_reading_complete_laws.proofs.Steps.{at, name-ok, ty-ok}
-use Rattle.sk_refusal_laws.proofs.spelled.Chains.{up_to}
-use Rattle.sk_refusal_laws.proofs.spelled.Expressions.{judgeable, whole-inside, whole-below}
-use Rattle.sk_refusal_laws.proofs.spelled.Judged.{Judged, Goes, Here, plain, next, judged-then, judged-trans, renamed, opening}
-use Rattle.sk_refusal_laws.proofs.spelled.Lengths.{expression-length, each_own-length}
+use Rattle.sk_reading_complete_laws.proofs.spelled.Chains.{up_to}
+use Rattle.sk_reading_complete_laws.proofs.spelled.Expressions.{judgeable, whole-inside, whole-below}
+use Rattle.sk_reading_complete_laws.proofs.spelled.Judged.{Judged, Goes, Here, plain, next, judged-then, judged-trans, renamed, opening}
+use Rattle.sk_reading_complete_laws.proofs.spelled.Lengths.{expression-length, each_own-length}
+use Rattle.sk_reading_complete_laws.proofs.expressions.Tokens.{longer}
 
 -- ---- expressions of their own
 

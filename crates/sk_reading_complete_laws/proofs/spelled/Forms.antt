@@ -26,9 +26,9 @@ use Rattle.sk_reading_complete_laws.proofs.expressions.Starts.{starts}
 use Rattle.sk_reading_complete_laws.proofs.statements.Assignments.{word_in-ok, last_nodes}
 use Rattle.sk_reading_complete_laws.proofs.statements.Forms.{text-ok, numbers-ok, names_from-ok, mode-tokens, family-reads, items-tokens, follows-item, value-first}
 use Rattle.sk_reading_complete_laws.proofs.Steps.{at, keyword-none, name-ok, ty-ok}
-use Rattle.sk_refusal_laws.proofs.spelled.Assignments.{value-judged, sum-judged, value_inside-judged, places-judged, target-judged}
-use Rattle.sk_refusal_laws.proofs.spelled.Judged.{Judged, Goes, Here, plain, next, next_marks, next_listed, next_numbers, judged-then, judged-trans, renamed, opening, opening_by, counted_instance}
-use Rattle.sk_refusal_laws.proofs.spelled.Lengths.{expression-length, each_own-length, listed-length, numbers-length, items-length}
+use Rattle.sk_reading_complete_laws.proofs.spelled.Assignments.{value-judged, sum-judged, value_inside-judged, places-judged, target-judged}
+use Rattle.sk_reading_complete_laws.proofs.spelled.Judged.{Judged, Goes, Here, plain, next, next_marks, next_listed, next_numbers, judged-then, judged-trans, renamed, opening, opening_by, counted_instance}
+use Rattle.sk_reading_complete_laws.proofs.spelled.Lengths.{expression-length, each_own-length, listed-length, numbers-length, items-length}
 
 -- before its `;`
 abbrev pub JudgesBegun : What → (left depth m j : ℕ) (tokens : List Token) (n i line : ℕ) (r : List Token) (rest from : Marks) → Type 0

@@ -26,10 +26,10 @@ use Rattle.sk_reading_complete_laws.proofs.statements.Blocks.{part-inside, no-el
 use Rattle.sk_reading_complete_laws.proofs.statements.Short.{NoElse, IsShort, name-short, same_number, declares, typed-short, second-not-dot, make-short, auto-short, std-short, return-short}
 use Rattle.sk_reading_complete_laws.proofs.statements.Tokens.{begins, written_longer}
 use Rattle.sk_reading_complete_laws.proofs.Steps.{at, keyword-none}
-use Rattle.sk_refusal_laws.proofs.spelled.Assignments.{value-judged, value_inside-judged, nodes_behind, target-judged, update-judged, step-judged, assignment_nodes, assignment-judged, declaration-judged, simple_nodes, simple-judged}
-use Rattle.sk_refusal_laws.proofs.spelled.Forms.{JudgesBegun, ended-judged, make-judged, take-judged, instance-judged, return-judged, call-judged, set_value-judged, set_overlap-judged, set_mode-judged, print-judged}
-use Rattle.sk_refusal_laws.proofs.spelled.Judged.{Judged, Goes, Here, plain, next, judged-then, judged-trans, renamed, opening, opening_by}
-use Rattle.sk_refusal_laws.proofs.spelled.Lengths.{expression-length, assignment-length, simple-length, branch-length, otherwise-length, block-length, statements-length}
+use Rattle.sk_reading_complete_laws.proofs.spelled.Assignments.{value-judged, value_inside-judged, nodes_behind, target-judged, update-judged, step-judged, assignment_nodes, assignment-judged, declaration-judged, simple_nodes, simple-judged}
+use Rattle.sk_reading_complete_laws.proofs.spelled.Forms.{JudgesBegun, ended-judged, make-judged, take-judged, instance-judged, return-judged, call-judged, set_value-judged, set_overlap-judged, set_mode-judged, print-judged}
+use Rattle.sk_reading_complete_laws.proofs.spelled.Judged.{Judged, Goes, Here, plain, next, judged-then, judged-trans, renamed, opening, opening_by}
+use Rattle.sk_reading_complete_laws.proofs.spelled.Lengths.{expression-length, assignment-length, simple-length, branch-length, otherwise-length, block-length, statements-length}
 
 abbrev pub JudgesStatement : Written → Type 0
 JudgesStatement w = (left depth n i j : ℕ) (r : List Token) (rest : Marks) → depth + left ≡ 64 → i + written_instances w ≡ j → length r ≡ length rest → NoElse r

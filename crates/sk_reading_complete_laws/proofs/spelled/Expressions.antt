@@ -16,13 +16,13 @@ use Rattle.sk_reading.specs.declared.next.Next.TheVariants as next_is
 use Rattle.sk_reading.specs.declared.reach.Reach.TheVariants.{Whole, Operand}
 use Rattle.sk_reading.specs.Reading.{Read, and_then, ◌>>=◌, front, front_of, advance, sees, after, expect, same_sign, opened}
 use Rattle.sk_reading.specs.ReadingExpressions.{opened_by_expression, operand, literal, named, member, called, indexed, bracketed, begins_conversion, conversion, parenthesized, prefixed, more, operators, chosen, choice_from, choice, below, arguments, arguments_from}
-use Rattle.sk_reading_complete_laws.proofs.expressions.Chains.{longer}
 use Rattle.sk_reading_complete_laws.proofs.expressions.Ends.{continues, EndsBefore, Ends, continues_infix, infix_here, not_open, named_ends}
 use Rattle.sk_reading_complete_laws.proofs.expressions.Starts.{starts, arguments_start, starts-not_close, starts-not_type, typed-is_type, prefix-by, level-least, level-most}
 use Rattle.sk_reading_complete_laws.proofs.Steps.{at, keyword-none, name-ok, number-ok, ty-ok}
-use Rattle.sk_refusal_laws.proofs.spelled.Chains.{JudgesOperand, JudgesUpTo, JudgesChain, JudgesWhole, JudgesArguments, Judgeable, chain_stops, up_to, chains_up, whole_above, tight}
-use Rattle.sk_refusal_laws.proofs.spelled.Judged.{Judged, Goes, Here, plain, next, judged-then, judged-trans, renamed, remarked, counted, opening}
-use Rattle.sk_refusal_laws.proofs.spelled.Lengths.{expression-length, arguments-length}
+use Rattle.sk_reading_complete_laws.proofs.spelled.Chains.{JudgesOperand, JudgesUpTo, JudgesChain, JudgesWhole, JudgesArguments, Judgeable, chain_stops, up_to, chains_up, whole_above, tight}
+use Rattle.sk_reading_complete_laws.proofs.spelled.Judged.{Judged, Goes, Here, plain, next, judged-then, judged-trans, renamed, remarked, counted, opening}
+use Rattle.sk_reading_complete_laws.proofs.spelled.Lengths.{expression-length, arguments-length}
+use Rattle.sk_reading_complete_laws.proofs.expressions.Tokens.{longer}
 
 pub whole-below : (s : Expression) → Judgeable s → (left depth n m i : ℕ) (r : List Token) (rest : Marks) → depth + left ≡ 64 → n + nodes_in s ≡ m → length r ≡ length rest → Ends 11 r
     → Judged (below (suc left) Whole (at (in_front s r) n i)) (Read (tree_in s, at r m i)) rest (expression_marks s depth n rest)

@@ -1,11 +1,12 @@
 -- Traces of a few steps that are thrifty, and ones that are not.
-use Rattle.std.proofs.Common.{Some, ◌≡◌, ◌≢◌, Bool, true, false, List, [], ◌∷◌, ◌++◌, pos, refl, arith}
+use Rattle.std.proofs.Common.{Some, None, ◌≡◌, ◌≢◌, Bool, true, false, List, [], ◌∷◌, ◌++◌, pos, refl, arith}
 use Rattle.std.specs.Prelude.{not, ◌==◌, ◌&&◌, ◌||◌, if◌then◌else◌}
 use Rattle.sk_base.specs.declared.number.Ty.TheVariants.{Int}
 use Rattle.sk_demand.proofs.Fixtures.{object}
 use Rattle.sk_demand.specs.Thrift.{Throughout, FillsStale, Settles, is_freed_before_kernel, next_room}
 use Rattle.sk_legality.specs.Legality.{after_states}
 use Rattle.sk_spaces.specs.Machine.{Mark, stale, valid, owner, filled_mark, is_within, start}
+use Rattle.sk_spaces.specs.declared.step.KernelKind.TheVariants.{Element}
 use Rattle.sk_spaces.specs.declared.step.Step.{Step}
 use Rattle.sk_spaces.specs.declared.step.Step.TheVariants as line
 

@@ -15,7 +15,7 @@ use Rattle.sk_isa.specs.declared.code.Instr.TheVariants.{Pop, Load, Store, Field
 use Rattle.sk_vm.specs.declared.stack.Stand.{Stand}
 use Rattle.sk_vm.specs.declared.step.Lead.{Lead}
 use Rattle.sk_vm.specs.declared.step.Lead.TheVariants as lead
-use Rattle.sk_vm.specs.Points.{values_in, point_at, FindsPlace, KeepsForCall, LeadsTo, Combines}
+use Rattle.sk_vm.specs.Points.{values_in, point_at, FindsOther, KeepsForCall, LeadsTo, Combines}
 use Rattle.sk_vm.proofs.Values.{values_in-last, going-in}
 
 -- the next address, with so many values
@@ -27,42 +27,42 @@ pops-one : (stand : Stand) (stack : List ℤ) (next : ℤ → List ℤ → Next)
     → with_one (values_in stack stand.top) next ≡ next (slice_index_or stack (stand.top - 1) (pos 0)) (values_in stack (stand.top - 1))
 pops-one stand stack next some = ap (λ (xs : List ℤ). with_one xs next) (values_in-last stack stand.top some)
 
-pub pop-leads : (instr : Instr) (place : List ℕ) (stand next : Stand) (stack slots : List ℤ) → instr ≡ Pop → 0 < stand.top → next ≡ past stand (stand.top - 1)
-    → LeadsTo instr place (point_at stand stack slots) (lead.Goes next) stack slots
-pop-leads instr place stand next stack slots is some to =
+pub pop-leads : (instr : Instr) (other : ℕ → Argument) (stand next : Stand) (stack slots : List ℤ) → instr ≡ Pop → 0 < stand.top → next ≡ past stand (stand.top - 1)
+    → LeadsTo instr other (point_at stand stack slots) (lead.Goes next) stack slots
+pop-leads instr other stand next stack slots is some to =
     λ routine finds. ap (λ (i : Instr). next_of routine i (point_at stand stack slots)) is
     ∙ pops-one stand stack (λ a rest. going (point_at stand stack slots) rest) some
     ∙ ap (λ (s : Stand). Goes (point_at s stack slots)) (sym to)
 
-leads-by : (instr : Instr) (place : List ℕ) (before : Point) (stand : Stand) (result : Lead) (after slots : List ℤ) → result ≡ lead.Goes stand
-    → LeadsTo instr place before (lead.Goes stand) after slots → LeadsTo instr place before result after slots
-leads-by instr place before stand result after slots is leads = subst (λ (r : Lead). LeadsTo instr place before r after slots) (sym is) leads
+leads-by : (instr : Instr) (other : ℕ → Argument) (before : Point) (stand : Stand) (result : Lead) (after slots : List ℤ) → result ≡ lead.Goes stand
+    → LeadsTo instr other before (lead.Goes stand) after slots → LeadsTo instr other before result after slots
+leads-by instr other before stand result after slots is leads = subst (λ (r : Lead). LeadsTo instr other before r after slots) (sym is) leads
 
-pub load-leads : (slot : ℕ) (instr : Instr) (place : List ℕ) (stand : Stand) (stack after slots : List ℤ) (result : Lead) → instr ≡ Load slot → slot < length slots
+pub load-leads : (slot : ℕ) (instr : Instr) (other : ℕ → Argument) (stand : Stand) (stack after slots : List ℤ) (result : Lead) → instr ≡ Load slot → slot < length slots
     → result ≡ lead.Goes (past stand (suc stand.top)) → values_in after (suc stand.top) ≡ slice_index_or slots slot (pos 0) ∷ values_in stack stand.top
-    → LeadsTo instr place (point_at stand stack slots) result after slots
-load-leads slot instr place stand stack after slots result is there to values =
-    leads-by instr place (point_at stand stack slots) (past stand (suc stand.top)) result after slots to (λ routine finds.
+    → LeadsTo instr other (point_at stand stack slots) result after slots
+load-leads slot instr other stand stack after slots result is there to values =
+    leads-by instr other (point_at stand stack slots) (past stand (suc stand.top)) result after slots to (λ routine finds.
     ap (λ (i : Instr). next_of routine i (point_at stand stack slots)) is
     ∙ ap (λ (o : Option ℤ). elim o [ Some value ↦ going (point_at stand stack slots) (value ∷ values_in stack stand.top) | None ↦ Stuck ])
     (slice_get-get_or slots slot (pos 0) there)
     ∙ going-in stand (past stand (suc stand.top)) stack after slots slots _ refl refl refl values)
 
-pub field-leads : (slot : ℕ) (name : List ℕ) (instr : Instr) (place : List ℕ) (stand : Stand) (stack after slots : List ℤ) (result : Lead) → instr ≡ Field slot name
-    → result ≡ lead.Goes (past stand (suc stand.top)) → values_in after (suc stand.top) ≡ field_of (Place place) name ∷ values_in stack stand.top
-    → LeadsTo instr place (point_at stand stack slots) result after slots
-field-leads slot name instr place stand stack after slots result is to values =
-    leads-by instr place (point_at stand stack slots) (past stand (suc stand.top)) result after slots to (λ routine finds.
+pub field-leads : (slot : ℕ) (name : List ℕ) (instr : Instr) (other : ℕ → Argument) (stand : Stand) (stack after slots : List ℤ) (result : Lead) → instr ≡ Field slot name
+    → result ≡ lead.Goes (past stand (suc stand.top)) → values_in after (suc stand.top) ≡ field_of (other slot) name ∷ values_in stack stand.top
+    → LeadsTo instr other (point_at stand stack slots) result after slots
+field-leads slot name instr other stand stack after slots result is to values =
+    leads-by instr other (point_at stand stack slots) (past stand (suc stand.top)) result after slots to (λ routine finds.
     ap (λ (i : Instr). next_of routine i (point_at stand stack slots)) is
     ∙ ap (λ (o : Option Argument). elim o [ Some argument ↦ going (point_at stand stack slots) (field_of argument name ∷ values_in stack stand.top) | None ↦ Stuck ])
-    (subst (λ (i : Instr). FindsPlace i place routine) is finds)
+    (subst (λ (i : Instr). FindsOther i other routine) is finds)
     ∙ going-in stand (past stand (suc stand.top)) stack after slots slots _ refl refl refl values)
 
-pub store-leads : (slot : ℕ) (instr : Instr) (place : List ℕ) (stand : Stand) (stack slots slots_after : List ℤ) (result : Lead) → instr ≡ Store slot → slot < length slots → 0 < stand.top
+pub store-leads : (slot : ℕ) (instr : Instr) (other : ℕ → Argument) (stand : Stand) (stack slots slots_after : List ℤ) (result : Lead) → instr ≡ Store slot → slot < length slots → 0 < stand.top
     → result ≡ lead.Goes (past stand (stand.top - 1)) → slots_after ≡ slice_set slots slot (slice_index_or stack (stand.top - 1) (pos 0))
-    → LeadsTo instr place (point_at stand stack slots) result stack slots_after
-store-leads slot instr place stand stack slots slots_after result is there some to set =
-    leads-by instr place (point_at stand stack slots) (past stand (stand.top - 1)) result stack slots_after to (λ routine finds.
+    → LeadsTo instr other (point_at stand stack slots) result stack slots_after
+store-leads slot instr other stand stack slots slots_after result is there some to set =
+    leads-by instr other (point_at stand stack slots) (past stand (stand.top - 1)) result stack slots_after to (λ routine finds.
     ap (λ (i : Instr). next_of routine i (point_at stand stack slots)) is
     ∙ pops-one stand stack (λ a rest. stored (point_at stand stack slots) slot a rest) some
     ∙ cond-true (nat_lt slot (length slots)) _ Stuck (lt-ltb slot (length slots) there)
@@ -76,20 +76,20 @@ replaces f stand stack after slots value some before values =
     ap (λ (xs : List ℤ). with_one xs (λ a rest. going (point_at stand stack slots) (f a ∷ rest))) before
     ∙ going-in stand (past stand stand.top) stack after slots slots _ refl refl refl values
 
-pub neg-leads : (f : ℤ → ℤ) (instr plain : Instr) (place : List ℕ) (stand : Stand) (stack after slots : List ℤ) (value : ℤ) (result : Lead)
+pub neg-leads : (f : ℤ → ℤ) (instr plain : Instr) (other : ℕ → Argument) (stand : Stand) (stack after slots : List ℤ) (value : ℤ) (result : Lead)
     → ((routine : Routine) → next_of routine plain (point_at stand stack slots) ≡ with_one (values_in stack stand.top) (λ a rest. going (point_at stand stack slots) (f a ∷ rest)))
     → instr ≡ plain → 0 < stand.top → result ≡ lead.Goes (past stand stand.top)
     → values_in stack stand.top ≡ value ∷ values_in stack (stand.top - 1) → values_in after stand.top ≡ f value ∷ values_in stack (stand.top - 1)
-    → LeadsTo instr place (point_at stand stack slots) result after slots
-neg-leads f instr plain place stand stack after slots value result means is some to before values =
-    leads-by instr place (point_at stand stack slots) (past stand stand.top) result after slots to (λ routine finds.
+    → LeadsTo instr other (point_at stand stack slots) result after slots
+neg-leads f instr plain other stand stack after slots value result means is some to before values =
+    leads-by instr other (point_at stand stack slots) (past stand stand.top) result after slots to (λ routine finds.
     ap (λ (i : Instr). next_of routine i (point_at stand stack slots)) is ∙ means routine ∙ replaces f stand stack after slots value some before values)
 
-pub zero-leads : (to : ℕ) (instr : Instr) (place : List ℕ) (stand next : Stand) (stack slots : List ℤ) (result : Lead) → instr ≡ Zero to → 0 < stand.top
+pub zero-leads : (to : ℕ) (instr : Instr) (other : ℕ → Argument) (stand next : Stand) (stack slots : List ℤ) (result : Lead) → instr ≡ Zero to → 0 < stand.top
     → next ≡ record { at = if holds (slice_index_or stack (stand.top - 1) (pos 0)) then suc stand.at else to; top = stand.top - 1; turns = stand.turns }
-    → result ≡ lead.Goes next → LeadsTo instr place (point_at stand stack slots) result stack slots
-zero-leads to instr place stand next stack slots result is some next_is goes =
-    leads-by instr place (point_at stand stack slots) next result stack slots goes (λ routine finds.
+    → result ≡ lead.Goes next → LeadsTo instr other (point_at stand stack slots) result stack slots
+zero-leads to instr other stand next stack slots result is some next_is goes =
+    leads-by instr other (point_at stand stack slots) next result stack slots goes (λ routine finds.
     ap (λ (i : Instr). next_of routine i (point_at stand stack slots)) is
     ∙ pops-one stand stack (λ a rest. Goes (record (point_at stand stack slots) { at = if holds a then suc stand.at else to; stack = rest })) some
     ∙ ap (λ (s : Stand). Goes (point_at s stack slots)) (sym next_is))
@@ -113,4 +113,4 @@ pub kept-combined : (op : Op) (ty : Ty) (stand : Stand) (before after slots : Li
 kept-combined op ty stand before after slots (lead.Goes next) h = tt
 kept-combined op ty stand before after slots (lead.Ends value turns) h = tt
 kept-combined op ty stand before after slots (lead.Traps trap) h = tt
-kept-combined op ty stand before after slots (lead.Calls function) h = let no : Binary op ty ≡ Call function = h [] [] in cc
+kept-combined op ty stand before after slots (lead.Calls function) h = let no : Binary op ty ≡ Call function = h (λ slot. Place []) [] in cc

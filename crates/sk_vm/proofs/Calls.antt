@@ -186,18 +186,18 @@ params_fit object sound function within =
     omega arith
 
 -- slots into which arguments were put that are numbers
-pub begins-entered : (object : Object) (function : ℕ) (place : List ℕ) (given slots : List ℤ) (size : ℕ) → slots ≡ given ++ replicate (size - length given) (pos 0)
+pub begins-entered : (object : Object) (function : ℕ) (other : ℕ → Argument) (given slots : List ℤ) (size : ℕ) → slots ≡ given ++ replicate (size - length given) (pos 0)
     → size ≡ slots_at object.functions function → length slots ≡ size → length given ≡ length (signature_at object function).params
     → SuitParams (signature_at object function).params (map Value given)
-    → Begins object function place slots × (begun_with object function place slots ≡ map Value given)
-begins-entered object function place given slots size is size_is count params suited =
+    → Begins object function other slots × (begun_with object function other slots ≡ map Value given)
+begins-entered object function other given slots size is size_is count params suited =
     let front : given_to object function slots ≡ given =
     ap (λ (xs : List ℤ). take (length (signature_at object function).params) xs) is
     ∙ ap (λ (n : ℕ). take n (given ++ replicate (size - length given) (pos 0))) (sym params)
     ∙ take-append_seam given (replicate (size - length given) (pos 0)) in
-    let arguments : begun_with object function place slots ≡ map Value given =
-    ap (λ (xs : List ℤ). arguments_with (signature_at object function).params place xs) front
-    ∙ values_alone (signature_at object function).params place given suited in (
+    let arguments : begun_with object function other slots ≡ map Value given =
+    ap (λ (xs : List ℤ). arguments_with (signature_at object function).params other xs) front
+    ∙ values_alone (signature_at object function).params other given suited in (
       record {
         count = count ∙ size_is;
         suited = subst (λ (xs : List Argument). SuitParams (signature_at object function).params xs) (sym arguments) suited;
@@ -212,13 +212,13 @@ begins-entered object function place given slots size is size_is count params su
     )
 
 -- slots into which the arguments of a call were put
-pub call_begins : (object : Object) → HasSoundFunctions object → (callee : ℕ) → callee < length object.functions → (place : List ℕ) (stack free slots : List ℤ) (top takes size : ℕ)
+pub call_begins : (object : Object) → HasSoundFunctions object → (callee : ℕ) → callee < length object.functions → (other : ℕ → Argument) (stack free slots : List ℤ) (top takes size : ℕ)
     → takes ≡ length (signature_at object callee).params → takes ≤ top → top ≤ length stack → free ≡ drop (top - takes) stack
     → size ≡ slots_at object.functions callee → length slots ≡ size
     → slots ≡ take takes free ++ replicate (size - length (take takes free)) (pos 0)
     → SuitParams (signature_at object callee).params (map Value (passed object callee stack top))
-    → Begins object callee place slots × (begun_with object callee place slots ≡ map Value (passed object callee stack top))
-call_begins object sound callee within place stack free slots top takes size takes_is enough inside free_is size_is count is suited =
+    → Begins object callee other slots × (begun_with object callee other slots ≡ map Value (passed object callee stack top))
+call_begins object sound callee within other stack free slots top takes size takes_is enough inside free_is size_is count is suited =
     let given : take takes free ≡ passed object callee stack top =
     ap (λ (xs : List ℤ). take takes xs) free_is
     ∙ arguments-in takes (top - takes) stack (omega arith)
@@ -226,6 +226,6 @@ call_begins object sound callee within place stack free slots top takes size tak
     ∙ ap (λ (n : ℕ). reverse (take n (values_in stack top))) takes_is in
     let there : top - takes + takes ≤ length stack = omega arith in
     let many : length (take takes free) ≡ takes = length-take-le takes free (omega (arith, ap length free_is, length-drop (top - takes) stack)) in
-    let begins = begins-entered object callee place (take takes free) slots size is size_is count (many ∙ takes_is)
+    let begins = begins-entered object callee other (take takes free) slots size is size_is count (many ∙ takes_is)
     (subst (λ (xs : List ℤ). SuitParams (signature_at object callee).params (map Value xs)) (sym given) suited) in
     (begins.0, begins.1 ∙ ap (λ (xs : List ℤ). map Value xs) given)

@@ -11,7 +11,7 @@ use Rattle.sk_isa.specs.declared.code.Instr.TheVariants.{Call}
 use Rattle.sk_isa_laws.proofs.Callees.{there}
 use Rattle.sk_isa.specs.declared.object.Object.{Object}
 use Rattle.sk_isa.specs.Objects.{signature_at}
-use Rattle.sk_tree.specs.Parameters.{index_dimension}
+use Rattle.sk_tree.specs.Parameters.{index_dimension, leading_scalars}
 use Rattle.sk_vm.specs.Frames.{Framed, HasRoom, Holds, reading_by}
 use Rattle.sk_vm.specs.Rooms.{AreRooms, called_room, larger, largest, no_room, room_after, room_at, room_of, rooms_below, slots_at}
 use Rattle.sk_vm.specs.declared.rooms.Room.{Room}
@@ -163,12 +163,13 @@ holds-each object room frame are holds function there =
 
 -- a frame that is turned to a function has room for it
 pub turned : (object : Object) (room : Room) (frame after : Framed) (function : ℕ) → AreRooms object room → Holds room frame → function < length object.functions
-    → after ≡ record frame { function = function; index = index_dimension (signature_at object function).params; reading = reading_by 0 false } → HasRoom object after
+    → after ≡ record frame { function = function; index = index_dimension (signature_at object function).params; leading = leading_scalars (signature_at object function).params; reading = reading_by 0 false } → HasRoom object after
 turned object room frame after function are holds there is =
     let own = holds-each object room frame are holds function there in
     subst (HasRoom object) (sym is) (record {
       entered = record { sound = are.sound; parameters = are.parameters; there = there };
       index = refl;
+      leading = refl;
       pairs = tt;
       stack = own.stack;
       slots = own.slots;

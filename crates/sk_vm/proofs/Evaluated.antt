@@ -1,8 +1,8 @@
 -- Values that straight code has at places of a block.
-use Rattle.std.proofs.Common.{◌≡◌, inl, inr, ℕ, ◌+◌, ◌-◌, ◌<◌, ◌≤◌, Bool, nat_lt, List, [], length, take, drop, replicate, ℤ, pos, Ok, refl, sym, ap, subst, ◌∙◌, arith}
+use Rattle.std.proofs.Common.{◌≡◌, inl, inr, ℕ, ◌+◌, ◌-◌, ◌<◌, ◌≤◌, Bool, true, nat_lt, List, [], length, take, drop, replicate, ℤ, pos, Ok, refl, sym, ap, subst, ◌∙◌, arith}
 use Rattle.std.specs.Prelude.{Option, Some, slice_get, slice_index_or}
 use Rattle.std.proofs.lemmas.Bool.{cases_lt, cond-false, cond-true, le-ltb, lt-ltb}
-use Rattle.std.proofs.lemmas.List.{get_or-drop, get_or-replicate}
+use Rattle.std.proofs.lemmas.List.{get_or-drop, get_or-replicate, length-take-le}
 use Rattle.std.proofs.lemmas.Option.{none-some, slice_get-get_or}
 use Rattle.sk_base.specs.Arithmetic.{InRange}
 use Rattle.sk_meaning.specs.Evaluation.{turn_limit, value_only}
@@ -20,7 +20,7 @@ use Rattle.sk_vm.specs.Frames.{CountsPlaces, reading_by}
 use Rattle.sk_vm.specs.Lent.{LendsRun, begun_at, begun_in, lent_at, pair_at, place_at}
 use Rattle.sk_tree.specs.Parameters.{index_dimension}
 use Rattle.sk_tree.specs.declared.tree.ParamKind.{ParamKind}
-use Rattle.sk_vm.specs.Places.{TakesPlaces, ReadsPairs, counted_at, indices_in}
+use Rattle.sk_vm.specs.Places.{ReadsPairs, counted_at, indices_in, takes_columns}
 use Rattle.sk_vm.specs.Points.{values_in, point_at}
 use Rattle.sk_vm.specs.Rooms.{Begins, begun_with, given_to, instrs_at, slots_at}
 use Rattle.sk_vm.proofs.Behind.{behind-drop, behind-first, behind-have, behind-length, behind-others, behind_zeros}
@@ -28,7 +28,7 @@ use Rattle.sk_vm.proofs.Calls.{params_fit}
 use Rattle.sk_vm.proofs.Coordinates.{fields_given, places_on, reads_places}
 use Rattle.sk_vm.proofs.Given.{begins_given, given_suit, passable, value-in_range, value_given}
 use Rattle.sk_vm.proofs.Parameters.{lent-param, lent-within, slots, slots-have, slots-others, slots-pass, slots-size}
-use Rattle.sk_vm.proofs.Places.{indices_few}
+use Rattle.sk_vm.proofs.Places.{indices_few, place_for}
 use Rattle.sk_vm.proofs.Running.{routine_at}
 use Rattle.sk_vm.proofs.Starts.{starts}
 
@@ -37,12 +37,12 @@ unfolding values_in
 no_values stack = refl
 
 -- data that suits a function at places one behind another lends its scalars there
-pub lends : (object : Object) → HasSoundFunctions object → TakesPlaces object → (function : ℕ) → function < length object.functions
-    → (elements : ℕ) (pairs : Bool) → CountsPlaces (index_dimension (signature_at object function).params) pairs
+pub lends : (object : Object) → HasSoundFunctions object → (function : ℕ) → function < length object.functions
+    → takes_columns (signature_at object function).params ≡ true → (elements : ℕ) (pairs : Bool) → CountsPlaces (index_dimension (signature_at object function).params) pairs
     → (source : Source) (place pair count : ℕ) → SuitsRun (function_meaning object function (reading_by elements pairs)) source place pair count
     → LendsRun source elements pairs place pair (length (signature_at object function).params - indices_in (signature_at object function).params) count
-lends object sound parameters function within elements pairs counts source place pair count suits behind less =
-    passable object sound parameters function within (reading_by elements pairs) source (place_at pairs place behind) (pair_at pairs pair behind)
+lends object sound function within takes elements pairs counts source place pair count suits behind less =
+    passable object sound function within takes (reading_by elements pairs) source (place_at pairs place behind) (pair_at pairs pair behind)
     (reads_places (signature_at object function).params pairs elements counts) (suits behind less)
 
 -- the cells of a block are the values at its places, and of the function's type
@@ -75,7 +75,8 @@ begun-have params size known own have long others slot number is = elim (cases_l
 ]
 
 -- the function at one place
-module _ (object : Object) (sound : HasSoundFunctions object) (parameters : TakesPlaces object) (function : ℕ) (within : function < length object.functions)
+module _ (object : Object) (sound : HasSoundFunctions object) (function : ℕ) (within : function < length object.functions)
+    (takes : takes_columns (signature_at object function).params ≡ true)
     (elements : ℕ) (pairs : Bool) (counts : CountsPlaces (index_dimension (signature_at object function).params) pairs) (source : Source) (place pair : ℕ)
     (suits : Suits (function_meaning object function (reading_by elements pairs)) source place pair) (there : ℕ)
     (at_place : 0 < indices_in (signature_at object function).params → there ≡ place) (known : ℕ → Option ℤ)
@@ -110,7 +111,7 @@ module _ (object : Object) (sound : HasSoundFunctions object) (parameters : Take
   reads = reads_places params pairs elements counts
 
   can : CanPass source elements pairs place pair scalars
-  can = passable object sound parameters function within (reading_by elements pairs) source place pair reads suits
+  can = passable object sound function within takes (reading_by elements pairs) source place pair reads suits
 
   abbrev placed : List ℕ
   placed = counted_at source pairs place pair
@@ -151,27 +152,27 @@ module _ (object : Object) (sound : HasSoundFunctions object) (parameters : Take
       ap (λ (n : ℕ). drop n own) (sym all) ∙ behind-drop indices scalars behind
       ∙ slots-others source elements pairs place pair scalars others few can ∙ ap (λ (n : ℕ). replicate n (pos 0)) same
 
-  begins : Begins object function placed own
+  begins : Begins object function (place_for placed) own
   begins =
-      begins_given object sound parameters function within (reading_by elements pairs) source place pair reads suits placed is_placed own fit passes first size rest
+      begins_given object sound function within takes (reading_by elements pairs) source place pair reads suits placed is_placed own fit passes first size rest
 
   have : Holds known behind
   have slot x is =
       let found = known_is slot x is in
       slots-have source elements pairs place pair scalars others few can slot x found.0 found.1
 
-  have_begun : Have (begun_at indices scalars others there known) (begun_with object function placed own) own
+  have_begun : Have (begun_at indices scalars others there known) (begun_with object function (place_for placed) own) own
   have_begun = record {
     stored =
         behind-have indices (begun_in scalars others known) behind
         (begun-have scalars others known behind have behind_size (slots-others source elements pairs place pair scalars others few can));
-    given = fields_given params pairs source place pair counts suits.over (given_to object function own) there at_place;
+    given = fields_given params pairs source place pair counts suits.over (given_to object function own) (sym (length-take-le (length params) own fit)) there at_place;
   }
 
-  ended : function_of object function (begun_with object function placed own) turn_limit ≡ Ok (number, turn_limit)
+  ended : function_of object function (begun_with object function (place_for placed) own) turn_limit ≡ Ok (number, turn_limit)
   ended =
-      let running = starts object sound function within placed own begins turn_limit [] (instrs_at object.functions function) refl in
-      let routine = routine_at object function running.code placed own in
+      let running = starts object sound function within (place_for placed) own begins turn_limit [] (instrs_at object.functions function) refl in
+      let routine = routine_at object function running.code (place_for placed) own in
       let run = gives.ends routine own turn_limit (sym running.instrs_are) have_begun in
       let start : point_of 0 [] own turn_limit ≡ point_at (record { at = 0; top = 0; turns = turn_limit }) [] own =
       ap (λ (xs : List ℤ). point_of 0 xs own turn_limit) (sym (no_values [])) in
@@ -180,13 +181,13 @@ module _ (object : Object) (sound : HasSoundFunctions object) (parameters : Take
   pub value_evaluated : (cells : ℕ → ℕ → ℤ) → Agree (function_meaning object function (reading_by elements pairs)) source place pair cells
       → (function_meaning object function (reading_by elements pairs)).value (given_by source cells) place pair ≡ Ok number
   value_evaluated cells agree =
-      sym (value_given object sound parameters function within (reading_by elements pairs) source place pair reads suits placed is_placed own fit passes cells agree)
+      sym (value_given object sound function within takes (reading_by elements pairs) source place pair reads suits placed is_placed own fit passes cells agree)
       ∙ ap value_only ended
 
   pub range_evaluated : InRange (signature_at object function).ret number
   range_evaluated =
-      value-in_range object sound function within (begun_with object function placed own)
-      (given_suit object sound parameters function within (reading_by elements pairs) source place pair reads suits placed is_placed own fit passes) number turn_limit ended
+      value-in_range object sound function within (begun_with object function (place_for placed) own)
+      (given_suit object sound function within takes (reading_by elements pairs) source place pair reads suits placed is_placed own fit passes) number turn_limit ended
 
 -- what is known of the slots is what the data has
 lent_is : (source : Source) (elements : ℕ) (pairs : Bool) (place pair scalars behind slot : ℕ) (number : ℤ)
@@ -197,7 +198,8 @@ lent_is source elements pairs place pair scalars behind slot number is =
     (less, sym (lent-param source elements pairs place pair scalars behind slot less) ∙ is)
 
 -- what is evaluated at all places has the function's values
-pub all_evaluated : (object : Object) (sound : HasSoundFunctions object) (parameters : TakesPlaces object) (function : ℕ) (within : function < length object.functions)
+pub all_evaluated : (object : Object) (sound : HasSoundFunctions object) (function : ℕ) (within : function < length object.functions)
+    (takes : takes_columns (signature_at object function).params ≡ true)
     (elements : ℕ) (pairs : Bool) (counts : CountsPlaces (index_dimension (signature_at object function).params) pairs) (source : Source) (place pair : ℕ) (out : List ℤ)
     → SuitsRun (function_meaning object function (reading_by elements pairs)) source place pair (length out)
     → ((behind : ℕ) → behind < length out
@@ -207,16 +209,16 @@ pub all_evaluated : (object : Object) (sound : HasSoundFunctions object) (parame
     (lent_at source elements pairs place pair (length (signature_at object function).params - indices_in (signature_at object function).params) behind))
     (slice_index_or out behind (pos 0)))
     → AllEvaluated (function_meaning object function (reading_by elements pairs)) source place pair out
-all_evaluated object sound parameters function within elements pairs counts source place pair out suits gives =
+all_evaluated object sound function within takes elements pairs counts source place pair out suits gives =
     let scalars : ℕ = length (signature_at object function).params - indices_in (signature_at object function).params in
     record {
       values = λ cells agree behind less.
-          value_evaluated object sound parameters function within elements pairs counts source (place_at pairs place behind) (pair_at pairs pair behind) (suits behind less)
+          value_evaluated object sound function within takes elements pairs counts source (place_at pairs place behind) (pair_at pairs pair behind) (suits behind less)
           (place + behind) (places_on (signature_at object function).params pairs place behind counts)
           (lent_at source elements pairs place pair scalars behind) (lent_is source elements pairs place pair scalars behind)
           (slice_index_or out behind (pos 0)) (gives behind less) cells (agree behind less);
       range = λ behind less.
-          range_evaluated object sound parameters function within elements pairs counts source (place_at pairs place behind) (pair_at pairs pair behind) (suits behind less)
+          range_evaluated object sound function within takes elements pairs counts source (place_at pairs place behind) (pair_at pairs pair behind) (suits behind less)
           (place + behind) (places_on (signature_at object function).params pairs place behind counts)
           (lent_at source elements pairs place pair scalars behind) (lent_is source elements pairs place pair scalars behind)
           (slice_index_or out behind (pos 0)) (gives behind less);

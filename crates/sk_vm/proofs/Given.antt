@@ -18,10 +18,10 @@ use Rattle.sk_isa_laws.specs.Steps.{IsGiven}
 use Rattle.sk_isa_laws.proofs.Callees.{functions_have_values, there}
 use Rattle.sk_vm.specs.Arguments.{CanPass, Passes}
 use Rattle.sk_tree.specs.declared.tree.ParamKind.{ParamKind}
-use Rattle.sk_vm.specs.Places.{ReadsPairs, TakesPlaces, counted_at, indices_in, takes_places}
+use Rattle.sk_vm.specs.Places.{ReadsPairs, TakesPlaces, counted_at, indices_in, takes_columns, takes_places}
 use Rattle.sk_vm.specs.Rooms.{Begins, begun_with, given_to, slots_at}
 use Rattle.sk_vm.proofs.Middle.{params_place, params_scalar, place_slots, scalar_slots}
-use Rattle.sk_vm.proofs.Places.{can_pass_behind, defined_with, numbers_with, suited_with}
+use Rattle.sk_vm.proofs.Places.{can_pass_behind, defined_with, numbers_with, place_for, suited_with}
 use Rattle.sk_vm.proofs.Starts.{signature_at-is}
 
 -- the parameters of each function are scalars, and at most 64
@@ -50,7 +50,7 @@ value-in_range object sound function within arguments suits value left is =
     subst (λ (s : Signature). InRange s.ret value) (sym same)
     (subst (λ (r : Result (ℤ × ℕ) Trap). IsGiven own.0.ret turn_limit r) is given).0
 
--- the parameters of each function are scalars behind an index, and at most 64
+-- the parameters of each function stand in order, and are at most 64
 pub places_only : (object : Object) → HasSoundFunctions object → TakesPlaces object → (function : ℕ) → function < length object.functions
     → (takes_places (signature_at object function).params ≡ true) × (length (signature_at object function).params ≤ 64)
 places_only object sound parameters function within =
@@ -62,15 +62,13 @@ places_only object sound parameters function within =
     subst P (sym (signature_at-is object function own.0 own.1))
     (params_place own.0.params own.0.slots is_sound.slots (place_slots object function own.0 parameters own.1), is_sound.params)
 
--- data that suits a function
-module _ (object : Object) (sound : HasSoundFunctions object) (parameters : TakesPlaces object) (function : ℕ) (within : function < length object.functions) (reading : Reading)
+-- data that suits a function of scalars behind an index
+module _ (object : Object) (sound : HasSoundFunctions object) (function : ℕ) (within : function < length object.functions)
+    (takes : takes_columns (signature_at object function).params ≡ true) (reading : Reading)
     (source : Source) (place pair : ℕ) (pairs : ReadsPairs reading.pairs reading.elements (signature_at object function).params)
     (suits : Suits (function_meaning object function reading) source place pair) where
   abbrev params : List ParamKind
   params = (signature_at object function).params
-
-  takes : takes_places params ≡ true
-  takes = (places_only object sound parameters function within).0
 
   pub passable : CanPass source reading.elements reading.pairs place pair (length params - indices_in params)
   passable = can_pass_behind params reading source place pair takes suits.uniforms suits.held
@@ -81,23 +79,23 @@ module _ (object : Object) (sound : HasSoundFunctions object) (parameters : Take
     count : length params ≡ length (given_to object function slots)
     count = sym (length-take-le (length params) slots fit)
 
-    pub given_suit : SuitParams params (begun_with object function placed slots)
+    pub given_suit : SuitParams params (begun_with object function (place_for placed) slots)
     given_suit =
         suited_with params reading source place pair takes suits.uniforms suits.held pairs suits.operands suits.over placed placed_is
         (given_to object function slots) count passes
 
     pub begins_given : take (indices_in params) (given_to object function slots) ≡ replicate (indices_in params) (pos 0)
         → length slots ≡ slots_at object.functions function → drop (length params) slots ≡ replicate (length slots - length params) (pos 0)
-        → Begins object function placed slots
+        → Begins object function (place_for placed) slots
     begins_given first size others = record {
       count = size;
       suited = given_suit;
-      numbers = numbers_with params placed (given_to object function slots) count first;
+      numbers = numbers_with params placed (given_to object function slots) takes count first;
       others = others;
     }
 
     pub value_given : (cells : ℕ → ℕ → ℤ) → Agree (function_meaning object function reading) source place pair cells
-        → value_only (function_of object function (begun_with object function placed slots) turn_limit)
+        → value_only (function_of object function (begun_with object function (place_for placed) slots) turn_limit)
         ≡ (function_meaning object function reading).value (given_by source cells) place pair
     value_given cells agree =
         ap (λ (arguments : List Argument). invoked object function arguments)

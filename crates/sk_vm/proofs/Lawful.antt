@@ -32,62 +32,9 @@ use Rattle.sk_vm.specs.Places.{ReadsPairs, TakesPlaces, takes_places}
 use Rattle.sk_vm.specs.Rooms.{AreRooms, room_of}
 use Rattle.sk_vm.specs.declared.rooms.Room.{Room}
 use Rattle.sk_vm.proofs.Chains.{holds-each}
-use Rattle.sk_vm.proofs.Arguments.{element_type, later, none_plus, one_more, plus_none, read_here, taken, uniform_type}
+use Rattle.sk_vm.proofs.Begun.{index_suits, no_region_operand}
+use Rattle.sk_vm.proofs.Suited.{arguments_alike, arguments_suit}
 use Rattle.sk_vm.proofs.Given.{places_only}
-use Rattle.sk_vm.proofs.Places.{HoldsFor, place_suits}
-
--- arguments that are each of their parameter's type
-suits_defined : (reading : Reading) (given : Given) (at : At) (elements operand uniform : ℕ) (kinds : List ParamKind) → list_all is_scalar kinds ≡ true
-    → ((k : ℕ) (ty : Ty) → slice_get kinds k ≡ Some (Scalar ty) → k < elements → InRange ty (given.cells (operand + k) (element_index reading at (operand + k))))
-    → ((k : ℕ) (ty : Ty) → slice_get kinds (elements + k) ≡ Some (Scalar ty) → InRange ty (slice_index_or given.uniforms (uniform + k) (pos 0)))
-    → SuitParams kinds (arguments_after reading given at (taken elements operand uniform) kinds)
-suits_defined reading given at elements operand uniform [] scalars cells uniforms = tt
-suits_defined reading given at zero operand uniform (Scalar ty ∷ kinds) scalars cells uniforms = (
-  subst (λ (n : ℕ). InRange ty (slice_index_or given.uniforms n (pos 0))) (sym (plus_none uniform)) (uniforms 0 ty refl),
-  suits_defined reading given at zero operand (suc uniform) kinds scalars (λ k own is less. absurd (omega arith))
-      (λ k own is. subst (λ (n : ℕ). InRange own (slice_index_or given.uniforms n (pos 0))) (sym (later uniform k))
-      (uniforms (suc k) own (ap (λ (n : ℕ). slice_get (Scalar ty ∷ kinds) n) (none_plus k) ∙ is))),
-)
-suits_defined reading given at (suc elements) operand uniform (Scalar ty ∷ kinds) scalars cells uniforms = (
-  subst (λ (n : ℕ). InRange ty (given.cells n (element_index reading at n))) (sym (plus_none operand)) (cells 0 ty refl (omega arith)),
-  suits_defined reading given at elements (suc operand) uniform kinds scalars
-      (λ k own is less. subst (λ (n : ℕ). InRange own (given.cells n (element_index reading at n))) (sym (later operand k)) (cells (suc k) own is (omega arith)))
-      (λ k own is. uniforms k own (ap (λ (n : ℕ). slice_get (Scalar ty ∷ kinds) n) (one_more elements k) ∙ is)),
-)
-suits_defined reading given at elements operand uniform (Index dimension ∷ kinds) scalars cells uniforms = cc
-suits_defined reading given at elements operand uniform (Proxy dimension own ∷ kinds) scalars cells uniforms = cc
-suits_defined reading given at elements operand uniform (Region dimension own ∷ kinds) scalars cells uniforms = cc
-
--- data with the same uniform arguments, and the same elements, gives the same arguments
-same_arguments : (reading : Reading) (one other : Given) (at : At) (elements operand uniform : ℕ) (kinds : List ParamKind) → list_all is_scalar kinds ≡ true
-    → ((k : ℕ) (ty : Ty) → slice_get kinds k ≡ Some (Scalar ty) → k < elements
-    → one.cells (operand + k) (element_index reading at (operand + k)) ≡ other.cells (operand + k) (element_index reading at (operand + k)))
-    → one.uniforms ≡ other.uniforms
-    → arguments_after reading one at (taken elements operand uniform) kinds ≡ arguments_after reading other at (taken elements operand uniform) kinds
-same_arguments reading one other at elements operand uniform [] scalars cells uniforms = refl
-same_arguments reading one other at zero operand uniform (Scalar ty ∷ kinds) scalars cells uniforms =
-    ap (λ (xs : List ℤ). Value (slice_index_or xs uniform (pos 0)) ∷ arguments_after reading one at (taken zero operand (suc uniform)) kinds) uniforms
-    ∙ ap (λ (rest : List Argument). Value (slice_index_or other.uniforms uniform (pos 0)) ∷ rest)
-    (same_arguments reading one other at zero operand (suc uniform) kinds scalars (λ k own is less. absurd (omega arith)) uniforms)
-same_arguments reading one other at (suc elements) operand uniform (Scalar ty ∷ kinds) scalars cells uniforms =
-    let first : one.cells operand (element_index reading at operand) ≡ other.cells operand (element_index reading at operand) =
-    subst (λ (n : ℕ). one.cells n (element_index reading at n) ≡ other.cells n (element_index reading at n)) (sym (plus_none operand)) (cells 0 ty refl (omega arith)) in
-    ap (λ (x : ℤ). Value x ∷ arguments_after reading one at (taken elements (suc operand) uniform) kinds) first
-    ∙ ap (λ (rest : List Argument). Value (other.cells operand (element_index reading at operand)) ∷ rest)
-    (same_arguments reading one other at elements (suc operand) uniform kinds scalars
-    (λ k own is less. subst (λ (n : ℕ). one.cells n (element_index reading at n) ≡ other.cells n (element_index reading at n)) (sym (later operand k))
-    (cells (suc k) own is (omega arith))) uniforms)
-same_arguments reading one other at elements operand uniform (Index dimension ∷ kinds) scalars cells uniforms = cc
-same_arguments reading one other at elements operand uniform (Proxy dimension own ∷ kinds) scalars cells uniforms = cc
-same_arguments reading one other at elements operand uniform (Region dimension own ∷ kinds) scalars cells uniforms = cc
-
--- the number that is there
-number_there : (ty : Ty) (numbers : List ℤ) (k : ℕ) → IsSomeAnd (slice_get numbers k) (InRange ty) → InRange ty (slice_index_or numbers k (pos 0))
-number_there ty numbers k h = by (slice_get numbers k) refl h
-  where
-    by : (found : Option ℤ) → slice_get numbers k ≡ found → IsSomeAnd found (InRange ty) → InRange ty (slice_index_or numbers k (pos 0))
-    by None is h = absurd h
-    by (Some x) is h = subst (InRange ty) (sym (get_or_from_slice_get numbers k x (pos 0) is)) h
 
 first_function : (plan : Plan) (object : Object) → IsSoundPlan object plan → 0 < length plan.functions
 first_function plan object fits = let count = fits.count in by plan.skeleton (length plan.functions) fits.count
@@ -209,70 +156,7 @@ pairs_read object plan fits =
     by skeleton.MapPairsReduce ty params kinds elements = pairs_of params plan.elements elements kinds
     by skeleton.Call ty params kinds elements = tt
 
-zero_plus : (k : ℕ) → k ≡ 0 + k
-zero_plus k = omega arith
-
--- the arguments of scalars suit them
-scalars_suit : (params : List ParamKind) (reading : Reading) (given : Given) (place pair : ℕ) → list_all is_scalar params ≡ true
-    → AreOfTypes (uniform_types reading.elements params) given.uniforms → HoldsFor params reading (holding_all given) place pair
-    → SuitParams params (arguments_of reading params given (record { place = place; pair = pair }))
-scalars_suit params reading given place pair only uniforms held =
-    let at : At = record { place = place; pair = pair } in
-    suits_defined reading given at reading.elements 0 0 params only
-    (λ k ty is less. subst (λ (n : ℕ). InRange ty (given.cells n (element_index reading at n))) (zero_plus k)
-    (subst (λ (t : Ty). InRange t (given.cells k (element_index reading at k)))
-    (element_type reading.elements params k ty only is less)
-    (held k (element_index reading at k) (read_here reading params given.shapes at k ty only is less))))
-    (λ k ty is. subst (λ (n : ℕ). InRange ty (slice_index_or given.uniforms n (pos 0))) (zero_plus k)
-    (number_there ty given.uniforms k (typed_at (uniform_types reading.elements params) given.uniforms k ty uniforms
-    (uniform_type reading.elements params k ty only is))))
-
--- and those of an index and scalars
-places_suit : (params : List ParamKind) (reading : Reading) (given : Given) (place pair : ℕ) → takes_places params ≡ true
-    → ReadsPairs reading.pairs reading.elements params → SuitKinds (operand_kinds reading.elements params) given.shapes (place_in reading.pairs place pair)
-    → SuitsOver (if reading.pairs then None else index_dimension params) given.over place
-    → AreOfTypes (uniform_types reading.elements params) given.uniforms → HoldsFor params reading (holding_all given) place pair
-    → SuitParams params (arguments_of reading params given (record { place = place; pair = pair }))
-places_suit [] reading given place pair takes reads operands over uniforms held = tt
-places_suit (Scalar ty ∷ kinds) reading given place pair takes reads operands over uniforms held =
-    scalars_suit (Scalar ty ∷ kinds) reading given place pair takes uniforms held
-places_suit (Index dimension ∷ kinds) reading given place pair takes reads operands over uniforms held = (
-  place_suits dimension kinds reading.elements reading.pairs (holding_all given) place pair takes reads operands over,
-  scalars_suit kinds reading given place pair takes uniforms held,
-)
-places_suit (Proxy dimension ty ∷ kinds) reading given place pair takes reads operands over uniforms held = cc
-places_suit (Region dimension ty ∷ kinds) reading given place pair takes reads operands over uniforms held = cc
-
--- data that is alike gives the same arguments
-abbrev ReadAlike : (params : List ParamKind) → Reading → (one other : Given) → (place pair : ℕ) → Type 0
-ReadAlike params reading one other place pair =
-    (operand index : ℕ) → reads_of reading params one.shapes (record { place = place; pair = pair }) operand index ≡ true → one.cells operand index ≡ other.cells operand index
-
-scalars_alike : (params : List ParamKind) (reading : Reading) (one other : Given) (place pair : ℕ) → list_all is_scalar params ≡ true → IsAlike one other
-    → ReadAlike params reading one other place pair
-    → arguments_of reading params one (record { place = place; pair = pair }) ≡ arguments_of reading params other (record { place = place; pair = pair })
-scalars_alike params reading one other place pair only alike agree =
-    let at : At = record { place = place; pair = pair } in
-    same_arguments reading one other at reading.elements 0 0 params only
-    (λ k ty is less. subst (λ (n : ℕ). one.cells n (element_index reading at n) ≡ other.cells n (element_index reading at n)) (zero_plus k)
-    (agree k (element_index reading at k) (read_here reading params one.shapes at k ty only is less)))
-    alike.uniforms
-
-places_alike : (params : List ParamKind) (reading : Reading) (one other : Given) (place pair : ℕ) → takes_places params ≡ true → IsAlike one other
-    → ReadAlike params reading one other place pair
-    → arguments_of reading params one (record { place = place; pair = pair }) ≡ arguments_of reading params other (record { place = place; pair = pair })
-places_alike [] reading one other place pair takes alike agree = refl
-places_alike (Scalar ty ∷ kinds) reading one other place pair takes alike agree =
-    scalars_alike (Scalar ty ∷ kinds) reading one other place pair takes alike agree
-places_alike (Index dimension ∷ kinds) reading one other place pair takes alike agree =
-    ap (λ (over : Option (List ℕ)). Place (if reading.pairs then place ∷ pair ∷ [] else coordinates_of (unwrap_or over []) place)
-    ∷ arguments_of reading kinds one (record { place = place; pair = pair })) alike.over
-    ∙ ap (λ (rest : List Argument). Place (place_of reading other (record { place = place; pair = pair })) ∷ rest)
-    (scalars_alike kinds reading one other place pair takes alike agree)
-places_alike (Proxy dimension ty ∷ kinds) reading one other place pair takes alike agree = cc
-places_alike (Region dimension ty ∷ kinds) reading one other place pair takes alike agree = cc
-
--- an instance whose functions take no region and no container
+-- an instance of a program whose parameters stand in order
 module _ (object : Object) (sound : HasSoundFunctions object) (parameters : TakesPlaces object) (plan : Plan) (fits : IsSoundPlan object plan) where
   abbrev params : List ParamKind
   params = (signature_at object (function_at plan 0)).params
@@ -290,12 +174,15 @@ module _ (object : Object) (sound : HasSoundFunctions object) (parameters : Take
   never all given place pair suits =
       (sound.marks (function_at plan 0) (marked_at object plan.functions 0 all some)).has_value
       (arguments_of reading params given (record { place = place; pair = pair }))
-      (places_suit params reading given place pair takes (pairs_read object plan fits) suits.operands suits.over suits.uniforms suits.held)
+      (arguments_suit params reading given place pair suits.operands suits.held
+      (λ k dimension ty is. absurd (no_region_operand params reading.elements k dimension ty takes is))
+      (index_suits params reading.elements reading.pairs (holding_all given) place pair takes (pairs_read object plan fits) suits.operands suits.over) suits.uniforms)
 
   depends : DependsOnReads (instance_meaning object plan default_settings)
   depends one other place pair alike agree suits =
       ap (λ (arguments : List Argument). invoked object (function_at plan 0) arguments)
-      (places_alike params reading one other place pair takes alike agree)
+      (arguments_alike params reading one place pair other alike agree
+      (λ k dimension ty is. absurd (no_region_operand params reading.elements k dimension ty takes is)))
 
   joining : NeverTrapsJoining (instance_meaning object plan default_settings)
   joining all a b joined = by (operator_place plan.skeleton) refl joined
@@ -324,7 +211,7 @@ first_meaning object instance frame same first =
 -- a frame that is turned to an instance's first function
 pub at_first : (instance : Instantiated) (before turned after : Framed) (object : Object) (function elements : ℕ) (pairs : Bool) → object ≡ instance.object
     → function ≡ function_at instance.plan 0 → elements ≡ instance.plan.elements → pairs ≡ is_over_pairs instance.plan.skeleton
-    → turned ≡ record before { function = function; index = index_dimension (signature_at object function).params; reading = reading_by 0 false }
+    → turned ≡ record before { function = function; index = index_dimension (signature_at object function).params; leading = leading_scalars (signature_at object function).params; reading = reading_by 0 false }
     → after ≡ record turned { reading = reading_by elements pairs }
     → HasSoundFunctions instance.object → TakesPlaces instance.object → IsSoundPlan instance.object instance.plan → Serves instance before → IsAtFirst instance after
 at_first instance before turned after object function elements pairs object_is function_is elements_is pairs_is turned_is after_is sound parameters fits serves =
@@ -333,14 +220,15 @@ at_first instance before turned after object function elements pairs object_is f
     let is =
     after_is
     ∙ ap (λ (t : Framed). record t { reading = reading_by elements pairs }) turned_is
-    ∙ ap (λ (o : Object). record before { function = function; index = index_dimension (signature_at o function).params; reading = reading_by elements pairs }) object_is
-    ∙ ap (λ (f : ℕ). record before { function = f; index = index_dimension (signature_at instance.object f).params; reading = reading_by elements pairs }) function_is
-    ∙ ap (λ (n : ℕ). record before { function = function_at instance.plan 0; index = index_dimension (signature_at instance.object (function_at instance.plan 0)).params; reading = reading_by n pairs }) elements_is
-    ∙ ap (λ (p : Bool). record before { function = function_at instance.plan 0; index = index_dimension (signature_at instance.object (function_at instance.plan 0)).params; reading = reading_by instance.plan.elements p }) pairs_is in
+    ∙ ap (λ (o : Object). record before { function = function; index = index_dimension (signature_at o function).params; leading = leading_scalars (signature_at o function).params; reading = reading_by elements pairs }) object_is
+    ∙ ap (λ (f : ℕ). record before { function = f; index = index_dimension (signature_at instance.object f).params; leading = leading_scalars (signature_at instance.object f).params; reading = reading_by elements pairs }) function_is
+    ∙ ap (λ (n : ℕ). record before { function = function_at instance.plan 0; index = index_dimension (signature_at instance.object (function_at instance.plan 0)).params; leading = leading_scalars (signature_at instance.object (function_at instance.plan 0)).params; reading = reading_by n pairs }) elements_is
+    ∙ ap (λ (p : Bool). record before { function = function_at instance.plan 0; index = index_dimension (signature_at instance.object (function_at instance.plan 0)).params; leading = leading_scalars (signature_at instance.object (function_at instance.plan 0)).params; reading = reading_by instance.plan.elements p }) pairs_is in
     subst (IsAtFirst instance) (sym is) (record {
       room = record {
         entered = record { sound = sound; parameters = parameters; there = fits.there 0 0 some };
         index = refl;
+        leading = refl;
         pairs = pairs_read instance.object instance.plan fits;
         stack = own.stack;
         slots = own.slots;

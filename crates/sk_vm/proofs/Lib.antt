@@ -1,12 +1,15 @@
 pub mod Arguments
 pub mod Arms
+pub mod Begun
 pub mod Behind
 pub mod Calls
 pub mod Chains
+pub mod Containers
 pub mod Coordinates
 pub mod Evaluated
 pub mod Finds
 pub mod Given
+pub mod Items
 pub mod Lawful
 pub mod Middle
 pub mod Parameters
@@ -14,5 +17,7 @@ pub mod PlaceParts
 pub mod Places
 pub mod Ran
 pub mod Running
+pub mod Sizes
 pub mod Starts
+pub mod Suited
 pub mod Values

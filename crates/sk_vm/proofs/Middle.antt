@@ -6,12 +6,13 @@ use Rattle.std.specs.Cmp.Lexicographic.{pointwise}
 use Rattle.std.proofs.lemmas.Option.{get_or_from_slice_get, same_Some, slice_get_within}
 use Rattle.sk_base.specs.declared.number.Ty.{Ty}
 use Rattle.sk_base.specs.declared.number.Ty.TheVariants.{Int}
-use Rattle.sk_meaning.specs.Evaluation.{Value}
+use Rattle.sk_meaning.specs.Evaluation.{Argument, Value}
+use Rattle.sk_tree.specs.Parameters.{proxies_then_scalars, scalars_then_proxies}
 use Rattle.sk_tree.specs.declared.tree.ParamKind.{ParamKind}
 use Rattle.sk_tree.specs.declared.tree.ParamKind.TheVariants.{Scalar, Index, Proxy, Region}
 use Rattle.sk_isa.specs.declared.code.Code.{Code}
 use Rattle.sk_isa.specs.declared.code.Instr.{Instr}
-use Rattle.sk_isa.specs.declared.code.Instr.TheVariants.{Field, Call}
+use Rattle.sk_isa.specs.declared.code.Instr.TheVariants.{Field, Item, Call}
 use Rattle.sk_isa.specs.declared.object.Object.{Object}
 use Rattle.sk_isa.specs.declared.object.Signature.{Signature}
 use Rattle.sk_isa.specs.Coded.{Next, function_of, next_of}
@@ -24,11 +25,11 @@ use Rattle.sk_isa_laws.proofs.TypedLists.{typed-length}
 use Rattle.sk_vm.specs.declared.stack.Stand.{Stand}
 use Rattle.sk_vm.specs.Calls.{MayCall}
 use Rattle.sk_vm.specs.Needs.{Needs}
-use Rattle.sk_vm.specs.Places.{TakesPlaces, arguments_with, takes_places}
-use Rattle.sk_vm.specs.Points.{values_in, point_at, FindsPlace}
+use Rattle.sk_vm.specs.Places.{OfContainers, TakesPlaces, arguments_with, takes_places}
+use Rattle.sk_vm.specs.Points.{values_in, point_at, FindsOther}
 use Rattle.sk_vm.specs.Rooms.{begun_with, given_to, room_of, slots_at}
 use Rattle.sk_vm.proofs.Calls.{call_found, calls-next, passed}
-use Rattle.sk_vm.proofs.Finds.{IsField, field_there, needs_met}
+use Rattle.sk_vm.proofs.Finds.{FieldAt, ItemAt, field_there, item_named, item_there, needs_met}
 use Rattle.sk_vm.proofs.Chains.{room-callee, room-own}
 use Rattle.sk_vm.proofs.Running.{Running, routine_at}
 use Rattle.sk_vm.proofs.Starts.{signature_at-is, slots_at-is}
@@ -85,15 +86,36 @@ scalar_slots object function own scalars is =
     subst (λ (s : Signature). list_all is_scalar s.slots ≡ true) (get_or_from_slice_get object.signatures function own own is)
     (scalars function own (slice_get_within object.signatures function own is))
 
--- the same of parameters behind an index
+-- the same of parameters that stand in order
+params_after : (params slots : List ParamKind) → AreSlots params slots → proxies_then_scalars slots ≡ true → proxies_then_scalars params ≡ true
+params_after [] slots are e = refl
+params_after (param ∷ params) [] are e = absurd are
+params_after (param ∷ params) (Scalar ty ∷ slots) are e =
+    subst (λ (kind : ParamKind). proxies_then_scalars (kind ∷ params) ≡ true) (sym are.0) (params_scalar params slots are.1 e)
+params_after (param ∷ params) (Index dimension ∷ slots) are e = cc
+params_after (param ∷ params) (Proxy dimension ty ∷ slots) are e =
+    subst (λ (kind : ParamKind). proxies_then_scalars (kind ∷ params) ≡ true) (sym are.0) (params_after params slots are.1 e)
+params_after (param ∷ params) (Region dimension ty ∷ slots) are e = cc
+
+params_ordered : (params slots : List ParamKind) → AreSlots params slots → scalars_then_proxies slots ≡ true → scalars_then_proxies params ≡ true
+params_ordered [] slots are e = refl
+params_ordered (param ∷ params) [] are e = absurd are
+params_ordered (param ∷ params) (Scalar ty ∷ slots) are e =
+    subst (λ (kind : ParamKind). scalars_then_proxies (kind ∷ params) ≡ true) (sym are.0) (params_ordered params slots are.1 e)
+params_ordered (param ∷ params) (Index dimension ∷ slots) are e = cc
+params_ordered (param ∷ params) (Proxy dimension ty ∷ slots) are e =
+    subst (λ (kind : ParamKind). scalars_then_proxies (kind ∷ params) ≡ true) (sym are.0) (params_after params slots are.1 e)
+params_ordered (param ∷ params) (Region dimension ty ∷ slots) are e = cc
+
 pub params_place : (params slots : List ParamKind) → AreSlots params slots → takes_places slots ≡ true → takes_places params ≡ true
 params_place [] slots are e = refl
 params_place (param ∷ params) [] are e = absurd are
 params_place (param ∷ params) (Scalar ty ∷ slots) are e =
-    subst (λ (kind : ParamKind). takes_places (kind ∷ params) ≡ true) (sym are.0) (params_scalar params slots are.1 e)
+    subst (λ (kind : ParamKind). takes_places (kind ∷ params) ≡ true) (sym are.0) (params_ordered params slots are.1 e)
 params_place (param ∷ params) (Index dimension ∷ slots) are e =
-    subst (λ (kind : ParamKind). takes_places (kind ∷ params) ≡ true) (sym are.0) (params_scalar params slots are.1 e)
-params_place (param ∷ params) (Proxy dimension ty ∷ slots) are e = cc
+    subst (λ (kind : ParamKind). takes_places (kind ∷ params) ≡ true) (sym are.0) (params_ordered params slots are.1 e)
+params_place (param ∷ params) (Proxy dimension ty ∷ slots) are e =
+    subst (λ (kind : ParamKind). takes_places (kind ∷ params) ≡ true) (sym are.0) (params_after params slots are.1 e)
 params_place (param ∷ params) (Region dimension ty ∷ slots) are e = cc
 
 pub place_slots : (object : Object) (function : ℕ) (own : Signature) → TakesPlaces object → slice_get object.signatures function ≡ Some own → takes_places own.slots ≡ true
@@ -102,8 +124,8 @@ place_slots object function own parameters is =
     (parameters function own (slice_get_within object.signatures function own is))
 
 -- a run in the middle, with an instruction of its address
-module _ (object : Object) (function : ℕ) (place : List ℕ) (begun : List ℤ) (turns : ℕ) (instrs : List Instr) (stand : Stand) (stack slots : List ℤ)
-    (running : Running object function place begun turns instrs stand stack slots) where
+module _ (object : Object) (function : ℕ) (other : ℕ → Argument) (begun : List ℤ) (turns : ℕ) (instrs : List Instr) (stand : Stand) (stack slots : List ℤ)
+    (running : Running object function other begun turns instrs stand stack slots) where
   abbrev named : Named
   named = record { signatures = object.signatures; function = function; own = running.own }
 
@@ -136,29 +158,57 @@ module _ (object : Object) (function : ℕ) (place : List ℕ) (begun : List ℤ
   takes : TakesPlaces object → takes_places running.own.params ≡ true
   takes parameters = params_place running.own.params running.own.slots running.sound.slots (place_slots object function running.own parameters running.own_at)
 
-  -- a field is that of the place
-  field_in : TakesPlaces object → (slot : ℕ) (name : List ℕ) → has_field named slot name ≡ true → IsField place name slot (begun_with object function place begun)
-  field_in parameters slot name field =
-      let is = signature_at-is object function running.own running.own_at in
-      subst (λ (s : Signature). IsField place name slot (arguments_with s.params place (given_to object function begun))) (sym is)
-      (field_there running.own.params place name slot (given_to object function begun) (takes parameters) running.sound.kinds
-      (subst (λ (s : Signature). SuitParams running.own.params (arguments_with s.params place (given_to object function begun))) is running.suits) field)
+  abbrev Containers : (ℕ → Type 0) → Type 0
+  Containers Readable = OfContainers (signature_at object function).params Readable
 
-  pub needs : (instr : Instr) → TakesPlaces object → slice_get instrs stand.at ≡ Some instr → (room_of object.functions function).stack ≤ length stack
-      → Needs instr place stand.top stack slots
-  needs instr parameters found room =
+  own_is : signature_at object function ≡ running.own
+  own_is = signature_at-is object function running.own running.own_at
+
+  begun_is : begun_with object function other begun ≡ arguments_with running.own.params other (given_to object function begun)
+  begun_is = ap (λ (s : Signature). arguments_with s.params other (given_to object function begun)) own_is
+
+  begun_suits : SuitParams running.own.params (arguments_with running.own.params other (given_to object function begun))
+  begun_suits = subst (λ (xs : List Argument). SuitParams running.own.params xs) begun_is running.suits
+
+  own_containers : (Readable : ℕ → Type 0) → Containers Readable → OfContainers running.own.params Readable
+  own_containers Readable containers = subst (λ (s : Signature). OfContainers s.params Readable) own_is containers
+
+  -- a field is that of what stands for its parameter
+  field_in : (Readable : ℕ → Type 0) → Containers Readable → TakesPlaces object → (slot : ℕ) (name : List ℕ) → has_field named slot name ≡ true
+      → FieldAt other Readable name slot (begun_with object function other begun)
+  field_in Readable containers parameters slot name field =
+      subst (λ (xs : List Argument). FieldAt other Readable name slot xs) (sym begun_is)
+      (field_there running.own.params other Readable name slot (given_to object function begun) (takes parameters) running.sound.kinds begun_suits
+      (own_containers Readable containers) field)
+
+  -- a container is that which stands for its parameter
+  item_in : (Readable : ℕ → Type 0) → Containers Readable → (slot dimension : ℕ) (ty : Ty) → slice_get running.own.params slot ≡ Some (Proxy dimension ty)
+      → ItemAt other Readable slot (begun_with object function other begun)
+  item_in Readable containers slot dimension ty is =
+      subst (λ (xs : List Argument). ItemAt other Readable slot xs) (sym begun_is)
+      (item_there running.own.params other Readable slot dimension ty (given_to object function begun) begun_suits (own_containers Readable containers) is)
+
+  pub needs : (Readable : ℕ → Type 0) → Containers Readable → (instr : Instr) → TakesPlaces object → slice_get instrs stand.at ≡ Some instr
+      → (room_of object.functions function).stack ≤ length stack → Needs instr other Readable stand.top stack slots
+  needs Readable containers instr parameters found room =
       let at = here instr found in
       let low = deep in
-      needs_met named instr place stand.at running.point.types at.left stack slots stand.top (takes parameters)
-      (λ slot name field. (field_in parameters slot name field).has)
+      needs_met named instr other Readable stand.at running.point.types at.left stack slots stand.top (takes parameters)
+      (λ slot name field. let there = field_in Readable containers parameters slot name field in (there.has, there.readable))
+      (λ slot dimension ty is. let there = item_in Readable containers slot dimension ty is in (there.whole, there.readable))
       at.effect running.point.stack running.point.slots
       (λ to led. let upto = at.behind to led in omega arith)
 
-  pub finds : (instr : Instr) → TakesPlaces object → slice_get instrs stand.at ≡ Some instr → FindsPlace instr place (routine_at object function running.code place begun)
-  finds (Field slot name) parameters found =
-      (field_in parameters slot name
+  pub finds : (Readable : ℕ → Type 0) → Containers Readable → (instr : Instr) → TakesPlaces object → slice_get instrs stand.at ≡ Some instr
+      → FindsOther instr other (routine_at object function running.code other begun)
+  finds Readable containers (Field slot name) parameters found =
+      (field_in Readable containers parameters slot name
       (left_if_so (has_field named slot name) (Int ∷ running.point.types) (here (Field slot name) found).left (here (Field slot name) found).effect).0).given
-  finds instr parameters found = tt
+  finds Readable containers (Item slot places) parameters found =
+      let at = here (Item slot places) found in
+      let is = item_named named slot places running.point.types at.left at.effect in
+      (item_in Readable containers slot is.0 is.1 is.2).given
+  finds Readable containers instr parameters found = tt
 
   -- what a call needs
   pub record CallReady (callee : ℕ) (rest : List ℤ) : Type 0 where
@@ -205,12 +255,12 @@ module _ (object : Object) (function : ℕ) (place : List ℕ) (begun : List ℤ
       → next
       ≡ returning (point_at stand stack_then slots_then) (drop (length (signature_at object callee).params) (values_in stack_then stand.top))
       (function_of object callee (map Value (passed object callee stack_then stand.top)) stand.turns)
-      → next_of (routine_at object function running.code place begun) instr (point_at stand stack slots) ≡ next
+      → next_of (routine_at object function running.code other begun) instr (point_at stand stack slots) ≡ next
   call_leads sound callee rest ready upto instr is stack_then slots_then same_stack same_slots next led =
       let size = length-values_in stack stand.top in
       let takes = ready.may.takes in
-      ap (λ (i : Instr). next_of (routine_at object function running.code place begun) i (point_at stand stack slots)) is
-      ∙ calls-next object sound function callee (omega arith) ready.before (routine_at object function running.code place begun) refl (point_at stand stack slots) (omega arith)
+      ap (λ (i : Instr). next_of (routine_at object function running.code other begun) i (point_at stand stack slots)) is
+      ∙ calls-next object sound function callee (omega arith) ready.before (routine_at object function running.code other begun) refl (point_at stand stack slots) (omega arith)
       ∙ ap (λ (xs : List ℤ). returning (point_at stand xs slots) (drop (length (signature_at object callee).params) (values_in xs stand.top))
       (function_of object callee (map Value (passed object callee xs stand.top)) stand.turns)) (sym same_stack)
       ∙ ap (λ (xs : List ℤ). returning (point_at stand stack_then xs) (drop (length (signature_at object callee).params) (values_in stack_then stand.top))

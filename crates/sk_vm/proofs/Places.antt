@@ -1,5 +1,5 @@
 -- Functions that may have an index as their first parameter, and their arguments.
-use Rattle.std.proofs.Common.{◌≡◌, ℕ, suc, ◌-◌, ◌/◌, ◌%◌, ◌^◌, ◌<◌, ◌≤◌, Bool, true, false, ◌&&◌, ◌||◌, List, [], ◌∷◌, length, map, take, drop, replicate, ℤ, pos, Option, Some, None, IsSomeAnd, slice_index_or, slice_set, unwrap_or, refl, sym, ap, subst, ◌∙◌, arith}
+use Rattle.std.proofs.Common.{◌≡◌, ℕ, zero, suc, ◌-◌, ◌/◌, ◌%◌, ◌^◌, ◌<◌, ◌≤◌, Bool, true, false, ◌&&◌, ◌||◌, List, [], ◌∷◌, length, map, take, drop, replicate, ℤ, pos, Option, Some, None, IsSomeAnd, slice_get, slice_index_or, slice_set, unwrap_or, refl, sym, ap, subst, ◌∙◌, arith}
 use Rattle.std.specs.Prelude.{All, codes, if◌then◌else◌, nat_le}
 use Rattle.std.specs.List.{list_all}
 use Rattle.std.proofs.Math.Nat.{div-le_self, mod-le}
@@ -9,23 +9,31 @@ use Rattle.sk_arguments.specs.Places.{coordinates_of}
 use Rattle.sk_base.specs.Arithmetic.{InRange}
 use Rattle.sk_base.specs.Shape.{IsShape, cells_of}
 use Rattle.sk_isa.specs.SoundObjects.{TakesScalars}
-use Rattle.sk_isa.specs.Soundness.{SuitParams, SuitsParam, is_scalar}
+use Rattle.sk_isa.specs.Soundness.{SuitParams, SuitsParam, is_container, is_scalar}
 use Rattle.sk_isa.specs.declared.object.Object.{Object}
 use Rattle.sk_isa.specs.declared.object.Signature.{Signature}
 use Rattle.sk_kernel.specs.Kernels.{AreOfTypes, Source, SuitKinds, SuitsOver, given_by, operand_type, place_in}
 use Rattle.sk_meaning.specs.Evaluation.{Argument, Value, Place, named, number_in, place_fields}
 use Rattle.sk_names.specs.Bytes.{same_bytes}
 use Rattle.sk_names.specs.BytesLaws.{same_bytes-true}
-use Rattle.sk_tree.specs.Parameters.{index_dimension}
+use Rattle.sk_tree.specs.Parameters.{index_dimension, leading_scalars, scalars_then_proxies}
 use Rattle.sk_tree.specs.declared.tree.ParamKind.{ParamKind}
 use Rattle.sk_tree.specs.declared.tree.ParamKind.TheVariants.{Scalar, Index, Proxy, Region}
 use Rattle.sk_vm.specs.Arguments.{CanPass, Passes}
-use Rattle.sk_vm.specs.Places.{HasField, IsCounted, ReadsPairs, TakesPlaces, arguments_with, axis_of, counted_at, indices_in, takes_places}
+use Rattle.sk_vm.specs.Places.{HasField, IsCounted, OfContainers, ReadsPairs, TakesPlaces, arguments_with, axis_of, counted_at, indices_in, takes_columns, takes_places}
 use Rattle.sk_vm.proofs.Arguments.{as_defined, can_pass, suited}
+
+-- scalars stand in order
+pub scalars_ordered : (kinds : List ParamKind) → list_all is_scalar kinds ≡ true → scalars_then_proxies kinds ≡ true
+scalars_ordered [] scalars = refl
+scalars_ordered (Scalar ty ∷ kinds) scalars = scalars_ordered kinds scalars
+scalars_ordered (Index dimension ∷ kinds) scalars = cc
+scalars_ordered (Proxy dimension ty ∷ kinds) scalars = cc
+scalars_ordered (Region dimension ty ∷ kinds) scalars = cc
 
 pub scalars_take_places : (kinds : List ParamKind) → list_all is_scalar kinds ≡ true → takes_places kinds ≡ true
 scalars_take_places [] scalars = refl
-scalars_take_places (Scalar ty ∷ kinds) scalars = scalars
+scalars_take_places (Scalar ty ∷ kinds) scalars = scalars_ordered kinds scalars
 scalars_take_places (Index dimension ∷ kinds) scalars = cc
 scalars_take_places (Proxy dimension ty ∷ kinds) scalars = cc
 scalars_take_places (Region dimension ty ∷ kinds) scalars = cc
@@ -35,47 +43,77 @@ pub scalars_are_places : (object : Object) → TakesScalars object → TakesPlac
 scalars_are_places object scalars =
     λ k own within. scalars_take_places (slice_index_or {A = Signature} object.signatures k own).slots (scalars k own within)
 
--- parameters of which none is an index
-pub scalars_alone : (kinds : List ParamKind) → takes_places kinds ≡ true → index_dimension kinds ≡ None → list_all is_scalar kinds ≡ true
-scalars_alone [] takes alone = refl
-scalars_alone (Scalar ty ∷ kinds) takes alone = takes
-scalars_alone (Index dimension ∷ kinds) takes alone = cc
-scalars_alone (Proxy dimension ty ∷ kinds) takes alone = cc
-scalars_alone (Region dimension ty ∷ kinds) takes alone = cc
-
--- values suit no index, so they are the arguments whatever the place is
-pub values_alone : (kinds : List ParamKind) (place : List ℕ) (numbers : List ℤ) → SuitParams kinds (map Value numbers) → arguments_with kinds place numbers ≡ map Value numbers
-values_alone [] place numbers suits = refl
-values_alone (Scalar ty ∷ kinds) place numbers suits = refl
-values_alone (Proxy dimension ty ∷ kinds) place numbers suits = refl
-values_alone (Region dimension ty ∷ kinds) place numbers suits = refl
-values_alone (Index dimension ∷ kinds) place [] suits = absurd suits
-values_alone (Index dimension ∷ kinds) place (number ∷ numbers) suits = absurd suits.0
+-- values suit nothing but scalars, so they are the arguments whatever is given beside
+pub values_alone : (kinds : List ParamKind) (other : ℕ → Argument) (numbers : List ℤ) → SuitParams kinds (map Value numbers) → arguments_with kinds other numbers ≡ map Value numbers
+values_alone [] other [] suits = refl
+values_alone [] other (number ∷ numbers) suits = absurd suits
+values_alone (kind ∷ kinds) other [] suits = absurd suits
+values_alone (Scalar ty ∷ kinds) other (number ∷ numbers) suits =
+    ap (λ (rest : List Argument). Value number ∷ rest) (values_alone kinds (λ slot. other (suc slot)) numbers suits.1)
+values_alone (Index dimension ∷ kinds) other (number ∷ numbers) suits = absurd suits.0
+values_alone (Proxy dimension ty ∷ kinds) other (number ∷ numbers) suits = absurd suits.0
+values_alone (Region dimension ty ∷ kinds) other (number ∷ numbers) suits = absurd suits.0
 
 -- and where values suit parameters, these are scalars
+values_suit_scalars : (kinds : List ParamKind) (numbers : List ℤ) → SuitParams kinds (map Value numbers) → list_all is_scalar kinds ≡ true
+values_suit_scalars [] numbers suits = refl
+values_suit_scalars (kind ∷ kinds) [] suits = absurd suits
+values_suit_scalars (Scalar ty ∷ kinds) (number ∷ numbers) suits = values_suit_scalars kinds numbers suits.1
+values_suit_scalars (Index dimension ∷ kinds) (number ∷ numbers) suits = absurd suits.0
+values_suit_scalars (Proxy dimension ty ∷ kinds) (number ∷ numbers) suits = absurd suits.0
+values_suit_scalars (Region dimension ty ∷ kinds) (number ∷ numbers) suits = absurd suits.0
+
 pub values_are_scalars : (kinds : List ParamKind) (numbers : List ℤ) → takes_places kinds ≡ true → SuitParams kinds (map Value numbers) → list_all is_scalar kinds ≡ true
-values_are_scalars [] numbers takes suits = refl
-values_are_scalars (Scalar ty ∷ kinds) numbers takes suits = takes
-values_are_scalars (Index dimension ∷ kinds) [] takes suits = absurd suits
-values_are_scalars (Index dimension ∷ kinds) (number ∷ numbers) takes suits = absurd suits.0
-values_are_scalars (Proxy dimension ty ∷ kinds) numbers takes suits = cc
-values_are_scalars (Region dimension ty ∷ kinds) numbers takes suits = cc
+values_are_scalars kinds numbers takes suits = values_suit_scalars kinds numbers suits
+
+-- so none of them is a container
+scalar_contained : (kinds : List ParamKind) (slot : ℕ) (kind : ParamKind) → list_all is_scalar kinds ≡ true → slice_get kinds slot ≡ Some kind → is_container kind ≡ true → ⊥
+scalar_contained [] slot kind scalars is container = cc
+scalar_contained (Scalar ty ∷ kinds) zero kind scalars is container =
+    let same : Scalar ty ≡ kind = cc in let no : false ≡ true = ap is_container same ∙ container in cc
+scalar_contained (Scalar ty ∷ kinds) (suc slot) kind scalars is container = scalar_contained kinds slot kind scalars is container
+scalar_contained (Index dimension ∷ kinds) slot kind scalars is container = cc
+scalar_contained (Proxy dimension ty ∷ kinds) slot kind scalars is container = cc
+scalar_contained (Region dimension ty ∷ kinds) slot kind scalars is container = cc
+
+pub no_containers : (kinds : List ParamKind) (numbers : List ℤ) (Has : ℕ → Type 0) → SuitParams kinds (map Value numbers) → OfContainers kinds Has
+no_containers kinds numbers Has suits slot kind is container = absurd (scalar_contained kinds slot kind (values_suit_scalars kinds numbers suits) is container)
 
 pub numbers_back : (numbers : List ℤ) → map number_in (map Value numbers) ≡ numbers
 numbers_back [] = refl
 numbers_back (number ∷ numbers) = ap (λ (xs : List ℤ). number ∷ xs) (numbers_back numbers)
 
+-- the arguments for scalars are their numbers
+scalars_with : (kinds : List ParamKind) (other : ℕ → Argument) (numbers : List ℤ) → list_all is_scalar kinds ≡ true → length kinds ≡ length numbers
+    → map Value numbers ≡ arguments_with kinds other numbers
+scalars_with [] other [] scalars count = refl
+scalars_with [] other (number ∷ numbers) scalars count = absurd (omega arith)
+scalars_with (kind ∷ kinds) other [] scalars count = absurd (omega arith)
+scalars_with (Scalar ty ∷ kinds) other (number ∷ numbers) scalars count =
+    ap (λ (rest : List Argument). Value number ∷ rest) (scalars_with kinds (λ slot. other (suc slot)) numbers scalars (omega arith))
+scalars_with (Index dimension ∷ kinds) other (number ∷ numbers) scalars count = cc
+scalars_with (Proxy dimension ty ∷ kinds) other (number ∷ numbers) scalars count = cc
+scalars_with (Region dimension ty ∷ kinds) other (number ∷ numbers) scalars count = cc
+
+-- a place stands for every parameter that is no scalar
+abbrev pub place_for : (place : List ℕ) → (slot : ℕ) → Argument
+place_for place slot = Place place
+
 -- the numbers of arguments are those of the slots, where an index has 0
-pub numbers_with : (kinds : List ParamKind) (place : List ℕ) (numbers : List ℤ) → length kinds ≡ length numbers
-    → take (indices_in kinds) numbers ≡ replicate (indices_in kinds) (pos 0) → map number_in (arguments_with kinds place numbers) ≡ numbers
-numbers_with [] place numbers count first = numbers_back numbers
-numbers_with (Scalar ty ∷ kinds) place numbers count first = numbers_back numbers
-numbers_with (Proxy dimension ty ∷ kinds) place numbers count first = numbers_back numbers
-numbers_with (Region dimension ty ∷ kinds) place numbers count first = numbers_back numbers
-numbers_with (Index dimension ∷ kinds) place [] count first = absurd (omega arith)
-numbers_with (Index dimension ∷ kinds) place (number ∷ numbers) count first =
+pub numbers_with : (kinds : List ParamKind) (place : List ℕ) (numbers : List ℤ) → takes_columns kinds ≡ true → length kinds ≡ length numbers
+    → take (indices_in kinds) numbers ≡ replicate (indices_in kinds) (pos 0) → map number_in (arguments_with kinds (place_for place) numbers) ≡ numbers
+numbers_with [] place numbers takes count first =
+    sym (ap (λ (xs : List Argument). map number_in xs) (scalars_with [] (place_for place) numbers takes count)) ∙ numbers_back numbers
+numbers_with (Scalar ty ∷ kinds) place numbers takes count first =
+    sym (ap (λ (xs : List Argument). map number_in xs) (scalars_with (Scalar ty ∷ kinds) (place_for place) numbers takes count)) ∙ numbers_back numbers
+numbers_with (Proxy dimension ty ∷ kinds) place numbers takes count first = cc
+numbers_with (Region dimension ty ∷ kinds) place numbers takes count first = cc
+numbers_with (Index dimension ∷ kinds) place [] takes count first = absurd (omega arith)
+numbers_with (Index dimension ∷ kinds) place (number ∷ numbers) takes count first =
     let zero_first : pos 0 ≡ number = let same : number ∷ [] ≡ pos 0 ∷ [] = first in cc in
-    ap (λ (x : ℤ). x ∷ map number_in (map Value numbers)) zero_first ∙ ap (λ (xs : List ℤ). number ∷ xs) (numbers_back numbers)
+    ap (λ (x : ℤ). x ∷ map number_in (arguments_with kinds (place_for place) numbers)) zero_first
+    ∙ ap (λ (xs : List ℤ). number ∷ xs)
+    (sym (ap (λ (xs : List Argument). map number_in xs) (scalars_with kinds (place_for place) numbers takes (omega arith))) ∙ numbers_back numbers)
 
 -- an index is a parameter
 pub indices_few : (kinds : List ParamKind) → indices_in kinds ≤ length kinds
@@ -113,32 +151,32 @@ two_below place pair first second =
     All-cons (λ (coordinate : ℕ). coordinate < 2 ^ 24) place (pair ∷ []) first
     (All-cons (λ (coordinate : ℕ). coordinate < 2 ^ 24) pair [] second (All-nil (λ (coordinate : ℕ). coordinate < 2 ^ 24)))
 
-at_pairs : (kinds : List ParamKind) (shapes : List (List ℕ)) (place pair : ℕ) → list_all is_scalar kinds ≡ true → 2 ≤ length kinds
+at_pairs : (kinds : List ParamKind) (shapes : List (List ℕ)) (place pair : ℕ) → scalars_then_proxies kinds ≡ true → 2 ≤ leading_scalars kinds
     → SuitKinds (operand_kinds 2 kinds) shapes (place_in true place pair) → SuitsParam (Index 2) (Place (place ∷ pair ∷ []))
-at_pairs [] shapes place pair scalars many suits = absurd (omega arith)
-at_pairs (one ∷ []) shapes place pair scalars many suits = absurd (omega arith)
-at_pairs (Scalar one ∷ Scalar other ∷ kinds) [] place pair scalars many suits = absurd suits
-at_pairs (Scalar one ∷ Scalar other ∷ kinds) (sizes ∷ []) place pair scalars many suits = absurd suits.1
-at_pairs (Scalar one ∷ Scalar other ∷ kinds) (sizes ∷ others ∷ shapes) place pair scalars many suits =
+at_pairs [] shapes place pair ordered many suits = absurd (omega arith)
+at_pairs (Scalar one ∷ []) shapes place pair ordered many suits = absurd (omega arith)
+at_pairs (Scalar one ∷ Scalar other ∷ kinds) [] place pair ordered many suits = absurd suits
+at_pairs (Scalar one ∷ Scalar other ∷ kinds) (sizes ∷ []) place pair ordered many suits = absurd suits.1
+at_pairs (Scalar one ∷ Scalar other ∷ kinds) (sizes ∷ others ∷ shapes) place pair ordered many suits =
     let first : place < cells_of sizes = suits.0.1 in
     let second : pair < cells_of others = suits.1.0.1 in
     let bounded = suits.0.0.product in
     let bounded_too = suits.1.0.0.product in
     (refl, two_below place pair (omega arith) (omega arith))
-at_pairs (Scalar one ∷ Index dimension ∷ kinds) shapes place pair scalars many suits = cc
-at_pairs (Scalar one ∷ Proxy dimension ty ∷ kinds) shapes place pair scalars many suits = cc
-at_pairs (Scalar one ∷ Region dimension ty ∷ kinds) shapes place pair scalars many suits = cc
-at_pairs (Index dimension ∷ other ∷ kinds) shapes place pair scalars many suits = cc
-at_pairs (Proxy dimension ty ∷ other ∷ kinds) shapes place pair scalars many suits = cc
-at_pairs (Region dimension ty ∷ other ∷ kinds) shapes place pair scalars many suits = cc
+at_pairs (Scalar one ∷ Index dimension ∷ kinds) shapes place pair ordered many suits = cc
+at_pairs (Scalar one ∷ Proxy dimension ty ∷ kinds) shapes place pair ordered many suits = absurd (omega arith)
+at_pairs (Scalar one ∷ Region dimension ty ∷ kinds) shapes place pair ordered many suits = cc
+at_pairs (Index dimension ∷ kinds) shapes place pair ordered many suits = cc
+at_pairs (Proxy dimension ty ∷ kinds) shapes place pair ordered many suits = absurd (omega arith)
+at_pairs (Region dimension ty ∷ kinds) shapes place pair ordered many suits = cc
 
-pub place_suits : (dimension : ℕ) (kinds : List ParamKind) (elements : ℕ) (pairs : Bool) (source : Source) (place pair : ℕ) → list_all is_scalar kinds ≡ true
+pub place_suits : (dimension : ℕ) (kinds : List ParamKind) (elements : ℕ) (pairs : Bool) (source : Source) (place pair : ℕ) → scalars_then_proxies kinds ≡ true
     → ReadsPairs pairs elements (Index dimension ∷ kinds) → SuitKinds (operand_kinds elements kinds) source.shapes (place_in pairs place pair)
     → SuitsOver (if pairs then None else Some dimension) source.over place → SuitsParam (Index dimension) (Place (counted_at source pairs place pair))
-place_suits dimension kinds elements false source place pair scalars reads operands over = in_container dimension source.over place over
-place_suits dimension kinds elements true source place pair scalars reads operands over =
+place_suits dimension kinds elements false source place pair ordered reads operands over = in_container dimension source.over place over
+place_suits dimension kinds elements true source place pair ordered reads operands over =
     subst (λ (d : ℕ). SuitsParam (Index d) (Place (place ∷ pair ∷ []))) (sym reads.0)
-    (at_pairs kinds source.shapes place pair scalars reads.2
+    (at_pairs kinds source.shapes place pair ordered reads.2
     (subst (λ (n : ℕ). SuitKinds (operand_kinds n kinds) source.shapes (place_in true place pair)) reads.1 operands))
 
 -- the place of an index lies in its container
@@ -161,7 +199,7 @@ HoldsFor params reading source place pair =
     (operand index : ℕ) → reads_of reading params source.shapes (record { place = place; pair = pair }) operand index ≡ true
     → IsSomeAnd (source.held operand index) (InRange (operand_type (operand_kinds reading.elements params) operand))
 
-pub can_pass_behind : (params : List ParamKind) (reading : Reading) (source : Source) (place pair : ℕ) → takes_places params ≡ true
+pub can_pass_behind : (params : List ParamKind) (reading : Reading) (source : Source) (place pair : ℕ) → takes_columns params ≡ true
     → AreOfTypes (uniform_types reading.elements params) source.uniforms → HoldsFor params reading source place pair
     → CanPass source reading.elements reading.pairs place pair (length params - indices_in params)
 can_pass_behind [] reading source place pair takes uniforms held = λ k less. absurd (omega arith)
@@ -175,41 +213,45 @@ can_pass_behind (Proxy dimension ty ∷ kinds) reading source place pair takes u
 can_pass_behind (Region dimension ty ∷ kinds) reading source place pair takes uniforms held = cc
 
 -- its arguments suit it
-pub suited_with : (params : List ParamKind) (reading : Reading) (source : Source) (place pair : ℕ) → takes_places params ≡ true
+pub suited_with : (params : List ParamKind) (reading : Reading) (source : Source) (place pair : ℕ) → takes_columns params ≡ true
     → AreOfTypes (uniform_types reading.elements params) source.uniforms → HoldsFor params reading source place pair
     → ReadsPairs reading.pairs reading.elements params → SuitKinds (operand_kinds reading.elements params) source.shapes (place_in reading.pairs place pair)
     → SuitsOver (if reading.pairs then None else index_dimension params) source.over place
     → (placed : List ℕ) → (0 < indices_in params → placed ≡ counted_at source reading.pairs place pair)
     → (numbers : List ℤ) → length params ≡ length numbers → Passes source reading.elements reading.pairs place pair (drop (indices_in params) numbers)
-    → SuitParams params (arguments_with params placed numbers)
+    → SuitParams params (arguments_with params (place_for placed) numbers)
 suited_with [] reading source place pair takes uniforms held reads operands over placed is numbers count passes =
-    suited [] reading source place pair takes uniforms held numbers count passes
+    subst (λ (xs : List Argument). SuitParams [] xs) (scalars_with [] (place_for placed) numbers takes count)
+    (suited [] reading source place pair takes uniforms held numbers count passes)
 suited_with (Scalar ty ∷ kinds) reading source place pair takes uniforms held reads operands over placed is numbers count passes =
-    suited (Scalar ty ∷ kinds) reading source place pair takes uniforms held numbers count passes
+    subst (λ (xs : List Argument). SuitParams (Scalar ty ∷ kinds) xs) (scalars_with (Scalar ty ∷ kinds) (place_for placed) numbers takes count)
+    (suited (Scalar ty ∷ kinds) reading source place pair takes uniforms held numbers count passes)
 suited_with (Index dimension ∷ kinds) reading source place pair takes uniforms held reads operands over placed is [] count passes = absurd (omega arith)
 suited_with (Index dimension ∷ kinds) reading source place pair takes uniforms held reads operands over placed is (number ∷ numbers) count passes = (
   subst (λ (p : List ℕ). SuitsParam (Index dimension) (Place p)) (sym (is (omega arith)))
-      (place_suits dimension kinds reading.elements reading.pairs source place pair takes reads operands over),
-  suited kinds reading source place pair takes uniforms held numbers (omega arith) passes,
+      (place_suits dimension kinds reading.elements reading.pairs source place pair (scalars_ordered kinds takes) reads operands over),
+  subst (λ (xs : List Argument). SuitParams kinds xs) (scalars_with kinds (place_for placed) numbers takes (omega arith))
+      (suited kinds reading source place pair takes uniforms held numbers (omega arith) passes),
 )
 suited_with (Proxy dimension ty ∷ kinds) reading source place pair takes uniforms held reads operands over placed is numbers count passes = cc
 suited_with (Region dimension ty ∷ kinds) reading source place pair takes uniforms held reads operands over placed is numbers count passes = cc
 
 -- and are those of the definition
-pub defined_with : (params : List ParamKind) (reading : Reading) (source : Source) (place pair : ℕ) → takes_places params ≡ true
+pub defined_with : (params : List ParamKind) (reading : Reading) (source : Source) (place pair : ℕ) → takes_columns params ≡ true
     → AreOfTypes (uniform_types reading.elements params) source.uniforms → HoldsFor params reading source place pair
     → (placed : List ℕ) → (0 < indices_in params → placed ≡ counted_at source reading.pairs place pair)
     → (numbers : List ℤ) → length params ≡ length numbers → Passes source reading.elements reading.pairs place pair (drop (indices_in params) numbers)
     → (cells : ℕ → ℕ → ℤ)
     → ((operand index : ℕ) → reads_of reading params source.shapes (record { place = place; pair = pair }) operand index ≡ true → source.held operand index ≡ Some (cells operand index))
-    → arguments_with params placed numbers ≡ arguments_of reading params (given_by source cells) (record { place = place; pair = pair })
+    → arguments_with params (place_for placed) numbers ≡ arguments_of reading params (given_by source cells) (record { place = place; pair = pair })
 defined_with [] reading source place pair takes uniforms held placed is numbers count passes cells agree =
-    as_defined [] reading source place pair takes uniforms held numbers count passes cells agree
+    sym (scalars_with [] (place_for placed) numbers takes count) ∙ as_defined [] reading source place pair takes uniforms held numbers count passes cells agree
 defined_with (Scalar ty ∷ kinds) reading source place pair takes uniforms held placed is numbers count passes cells agree =
-    as_defined (Scalar ty ∷ kinds) reading source place pair takes uniforms held numbers count passes cells agree
+    sym (scalars_with (Scalar ty ∷ kinds) (place_for placed) numbers takes count) ∙ as_defined (Scalar ty ∷ kinds) reading source place pair takes uniforms held numbers count passes cells agree
 defined_with (Index dimension ∷ kinds) reading source place pair takes uniforms held placed is [] count passes cells agree = absurd (omega arith)
 defined_with (Index dimension ∷ kinds) reading source place pair takes uniforms held placed is (number ∷ numbers) count passes cells agree =
-    ap (λ (p : List ℕ). Place p ∷ map Value numbers) (is (omega arith))
+    ap (λ (rest : List Argument). Place placed ∷ rest) (sym (scalars_with kinds (place_for placed) numbers takes (omega arith)))
+    ∙ ap (λ (p : List ℕ). Place p ∷ map Value numbers) (is (omega arith))
     ∙ ap (λ (rest : List Argument). Place (counted_at source reading.pairs place pair) ∷ rest)
     (as_defined kinds reading source place pair takes uniforms held numbers (omega arith) passes cells agree)
 defined_with (Proxy dimension ty ∷ kinds) reading source place pair takes uniforms held placed is numbers count passes cells agree = cc

@@ -9,7 +9,7 @@ pub record Entered : Type 0 where
   pub object : Object
   pub function : ℕ
 
--- The program is sound, its functions take no region and no container, and the function is one of them.
+-- The program is sound, its parameters stand in order, and the function is one of them.
 pub record MayEnter (entry : Entered) : Type 0 where
   pub sound : HasSoundFunctions entry.object
   pub parameters : TakesPlaces entry.object

@@ -4,26 +4,28 @@ use Rattle.sk_arguments.specs.Arguments.{Reading}
 use Rattle.sk_isa.specs.Objects.{signature_at}
 use Rattle.sk_isa.specs.declared.object.Object.{Object}
 use Rattle.sk_tree.specs.InstanceSettings.{default_settings}
-use Rattle.sk_tree.specs.Parameters.{index_dimension}
+use Rattle.sk_tree.specs.Parameters.{index_dimension, leading_scalars}
 use Rattle.sk_vm.specs.Entries.{MayEnter}
 use Rattle.sk_vm.specs.Places.{ReadsPairs}
 use Rattle.sk_vm.specs.Rooms.{room_of}
 use Rattle.sk_vm.specs.declared.rooms.Room.{Room}
 
--- a function's number, the dimension of its index parameter if it has one, how it reads its parameters, and how many values
--- and slots there is room for
+-- a function's number, the dimension of its index parameter if it has one, how many scalars stand before its first container,
+-- how it reads its parameters, and how many values and slots there is room for
 pub record Framed : Type 0 where
   pub function : ℕ
   pub index : Option ℕ
+  pub leading : ℕ
   pub reading : Reading
   pub stack : ℕ
   pub slots : ℕ
 
--- The frame's function may be entered, with that index parameter, it may be read at pairs of places where it is, and there is
+-- The frame's function may be entered, with that index parameter and so many scalars, it may be read at pairs of places where it is, and there is
 -- room for its calls.
 pub record HasRoom (object : Object) (frame : Framed) : Type 0 where
   pub entered : MayEnter (record { object = object; function = frame.function })
   pub index : frame.index ≡ index_dimension (signature_at object frame.function).params
+  pub leading : frame.leading ≡ leading_scalars (signature_at object frame.function).params
   pub pairs : ReadsPairs frame.reading.pairs frame.reading.elements (signature_at object frame.function).params
   pub stack : (room_of object.functions frame.function).stack ≤ frame.stack
   pub slots : (room_of object.functions frame.function).slots ≤ frame.slots

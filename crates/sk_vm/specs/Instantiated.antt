@@ -33,7 +33,7 @@ pub record Serves (instance : Instantiated) (frame : Framed) : Type 0 where
   pub room : (place : ℕ) → place < length instance.plan.functions
       → Holds (room_of instance.object.functions (function_at instance.plan place)) frame
 
--- an instance of a sound program whose functions take no region and no container
+-- an instance of a sound program whose parameters stand in order
 pub record IsInstance (object : Object) (plan : Plan) : Type 0 where
   pub sound : HasSoundFunctions object
   pub parameters : TakesPlaces object

@@ -8,3 +8,4 @@ pub mod Needs
 pub mod Places
 pub mod Points
 pub mod Rooms
+pub mod Surroundings

@@ -55,7 +55,7 @@ rooms_below codes (suc fewer) = rooms_below codes fewer ++ room_at (rooms_below 
 unfoldable pub room_of : List Code → (function : ℕ) → Room
 room_of codes function = room_at (rooms_below codes function) codes function
 
--- The program is sound, its functions take no region and no container, and this room is the largest of any of them.
+-- The program is sound, its parameters stand in order, and this room is the largest of any of them.
 pub record AreRooms (object : Object) (room : Room) : Type 0 where
   pub sound : HasSoundFunctions object
   pub parameters : TakesPlaces object
@@ -65,15 +65,15 @@ pub record AreRooms (object : Object) (room : Room) : Type 0 where
 abbrev pub given_to : Object → (function : ℕ) → (slots : List ℤ) → List ℤ
 given_to object function slots = take (length (signature_at object function).params) slots
 
--- the arguments of a function whose slots begin with these numbers, and which is given a place if it has an index
-abbrev pub begun_with : Object → (function : ℕ) → (place : List ℕ) → (slots : List ℤ) → List Argument
-begun_with object function place slots =
-    arguments_with (signature_at object function).params place (given_to object function slots)
+-- the arguments of a function whose slots begin with these numbers, and which is given something else for every other parameter
+abbrev pub begun_with : Object → (function : ℕ) → (other : ℕ → Argument) → (slots : List ℤ) → List Argument
+begun_with object function other slots =
+    arguments_with (signature_at object function).params other (given_to object function slots)
 
--- The slots of a function begin with numbers of its parameters' types, an index has 0, and every other slot has 0.
-pub record Begins (object : Object) (function : ℕ) (place : List ℕ) (slots : List ℤ) : Type 0 where
+-- The slots of a function begin with numbers of its parameters' types, every other parameter has 0, and so has every other slot.
+pub record Begins (object : Object) (function : ℕ) (other : ℕ → Argument) (slots : List ℤ) : Type 0 where
   pub count : length slots ≡ slots_at object.functions function
-  pub suited : SuitParams (signature_at object function).params (begun_with object function place slots)
-  pub numbers : map number_in (begun_with object function place slots) ≡ given_to object function slots
+  pub suited : SuitParams (signature_at object function).params (begun_with object function other slots)
+  pub numbers : map number_in (begun_with object function other slots) ≡ given_to object function slots
   pub others : drop (length (signature_at object function).params) slots
       ≡ replicate (length slots - length (signature_at object function).params) (pos 0)

@@ -4,9 +4,10 @@ ghost use Rattle.sk_vm.specs.Entries.{Entered, MayEnter};
 ghost use Rattle.sk_vm.specs.Rooms.{instrs_at, slots_at};
 
 use sk_isa::{Instr, Object};
+use sk_tree::ParamKind;
 use std::marker::Model;
 
-/// A function of a sound program whose functions take no region and no container.
+/// A function of a sound program whose parameters stand in order.
 #[derive(Drop)]
 pub struct Entry<'a> {
     pub object: &'a Object,
@@ -63,5 +64,17 @@ impl<'a> Entry<'a> {
         self.object.signatures.as_slice()[self.function as usize]
             .params
             .len()
+    }
+
+    /// Its parameters.
+    #[inline]
+    pub fn params(&self) -> &'a [ParamKind]
+        ensures params { result.now ≡ (signature_at self.now.object self.now.function).params }
+        ensures entered { MayEnter self.now }
+    {
+        let object = self.object;
+        object.signatures.as_slice()[self.function as usize]
+            .params
+            .as_slice()
     }
 }

@@ -6,15 +6,15 @@ ghost use Rattle.sk_kernel.specs.Kernels.{Suits, SuitsRun, Agree, AgreeRun, AreV
 ghost use Rattle.sk_isa.specs.SoundObjects.{HasSoundFunctions};
 ghost use Rattle.sk_isa.specs.Soundness.{SuitParams};
 ghost use Rattle.sk_meaning.specs.Evaluation.{Value};
-ghost use Rattle.sk_tree.specs.Parameters.{index_dimension};
+ghost use Rattle.sk_tree.specs.Parameters.{index_dimension, leading_scalars};
 ghost use Rattle.sk_vm.specs.Frames.{CountsPlaces, HasRoom, Holds, IsUnread, MayRead, reading_by};
 ghost use Rattle.sk_vm.specs.Lent.{ArePart, ArePartOfType};
-ghost use Rattle.sk_vm.specs.Places.{TakesPlaces};
+ghost use Rattle.sk_vm.specs.Places.{TakesPlaces, takes_columns};
 ghost use Rattle.sk_vm.specs.Rooms.{AreRooms};
 
 use crate::entry::Entry;
 use crate::lent::Lent;
-use crate::parts::{index_of, place_behind};
+use crate::parts::{index_of, leading_of, place_behind};
 use crate::place::count_of;
 use crate::rooms::{Room, Rooms, height_of, room_of};
 use crate::start::{Reading, start, start_with};
@@ -30,6 +30,7 @@ use std::marker::Model;
 pub struct Frame {
     function: u32,
     index: Option<u8>,
+    leading: usize,
     elements: u32,
     pairs: bool,
     /// Whether runs at many places are evaluated a block at a time.
@@ -49,6 +50,7 @@ impl Model for Frame {
     ghost view = { λ f. record {
       function = f.function;
       index = f.index;
+      leading = f.leading;
       reading = reading_by f.elements f.pairs;
       stack = vec_len f.stack;
       slots = vec_len f.slots;
@@ -130,6 +132,7 @@ impl Frame {
         Ok(Frame {
             function: 0,
             index: None,
+            leading: 0,
             elements: 0,
             pairs: false,
             straight: false,
@@ -143,10 +146,11 @@ impl Frame {
     /// Turns the frame to a function for which there is room, and for whose blocks there are rows where it is straight.
     pub(crate) fn turn_to(&mut self, object: &Object, function: u32, straight: bool)
         requires { function < length object.now.signatures }
-        ensures { self.new ≡ record self.old { function = function; index = index_dimension (signature_at object.now function).params; reading = reading_by 0 false } }
+        ensures { self.new ≡ record self.old { function = function; index = index_dimension (signature_at object.now function).params; leading = leading_scalars (signature_at object.now function).params; reading = reading_by 0 false } }
     {
         self.function = function;
         self.index = index_of(object, function);
+        self.leading = leading_of(object, function);
         self.elements = 0;
         self.pairs = false;
         self.straight = straight;
@@ -174,6 +178,7 @@ impl Frame {
     {
         let reading = Reading {
             indices: count_of(self.index),
+            leading: self.leading,
             elements: self.elements,
             pairs: self.pairs,
         };
@@ -211,7 +216,7 @@ impl Frame {
         ensures count { length out.new ≡ length out.old }
         ensures same { self.new ≡ self.old }
     {
-        if self.straight && self.counts_places() {
+        if self.straight && self.counts_places() && self.takes_columns(object) {
             self.run_blocks(object, source, at, out)
         } else {
             self.run_places(object, source, at, out)
@@ -228,7 +233,19 @@ impl Frame {
         }
     }
 
-    /// The same, a block of places at a time, where an index is the place alone.
+    /// Whether all parameters behind an index are scalars.
+    fn takes_columns(&self, object: &Object) -> bool
+        requires { HasRoom object.now self.now }
+        ensures { result ≡ true → takes_columns (signature_at object.now self.now.function).params ≡ true }
+    {
+        let entry = Entry {
+            object,
+            function: self.function,
+        };
+        count_of(self.index) + self.leading == entry.param_count()
+    }
+
+    /// The same, a block of places at a time, where an index is the place alone, and all other parameters are scalars.
     fn run_blocks<D: Data>(
         &mut self,
         object: &Object,
@@ -238,6 +255,7 @@ impl Frame {
     ) -> Result<(), RunTrap>
         requires room { HasRoom object.now self.old }
         requires counts { CountsPlaces self.old.index self.old.reading.pairs }
+        requires columns { takes_columns (signature_at object.now self.old.function).params ≡ true }
         requires suits { SuitsRun (function_meaning object.now self.old.function self.old.reading) (D.means source.now) at.place at.pair (length out.old) }
         requires places { at.place + length out.old < 2 ^ 32 }
         requires pairs { at.pair + length out.old < 2 ^ 32 }
@@ -270,6 +288,7 @@ impl Frame {
         requires within { done + count ≤ length out.old }
         requires room { HasRoom object.now self.old }
         requires counts { CountsPlaces self.old.index self.old.reading.pairs }
+        requires columns { takes_columns (signature_at object.now self.old.function).params ≡ true }
         requires suits { SuitsRun (function_meaning object.now self.old.function self.old.reading) (D.means source.now) at.place at.pair (length out.old) }
         requires places { at.place + length out.old < 2 ^ 32 }
         requires pairs { at.pair + length out.old < 2 ^ 32 }
@@ -303,6 +322,7 @@ impl Frame {
     ) -> Result<(), RunTrap>
         requires room { HasRoom object.now self.old }
         requires counts { CountsPlaces self.old.index self.old.reading.pairs }
+        requires columns { takes_columns (signature_at object.now self.old.function).params ≡ true }
         requires suits { SuitsRun (function_meaning object.now self.old.function self.old.reading) (D.means source.now) at.place at.pair (length out.old) }
         requires places { at.place + length out.old < 2 ^ 32 }
         requires pairs { at.pair + length out.old < 2 ^ 32 }
@@ -330,6 +350,7 @@ impl Frame {
     ) -> bool
         requires room { HasRoom object.now self.old }
         requires counts { CountsPlaces self.old.index self.old.reading.pairs }
+        requires columns { takes_columns (signature_at object.now self.old.function).params ≡ true }
         requires suits { SuitsRun (function_meaning object.now self.old.function self.old.reading) (D.means source.now) at.place at.pair (length out.old) }
         requires places { at.place + length out.old < 2 ^ 32 }
         requires pairs { at.pair + length out.old < 2 ^ 32 }

@@ -7,6 +7,7 @@
 //! - `lent`: parameters at places one behind another, for runs of blocks of places.
 //! - `entry`: a function that may be run.
 //! - `place`: the coordinates of the place that an index is given.
+//! - `surroundings`: what a function is given for its parameters that are no scalars.
 //! - `start`: a function with its arguments.
 //! - `run`: the run of a function from its first address to its end.
 //! - `step`: what one instruction does.
@@ -30,6 +31,7 @@ mod sharing;
 mod stack;
 mod start;
 mod step;
+mod surroundings;
 
 pub use coded::Coded;
 pub use frame::Frame;

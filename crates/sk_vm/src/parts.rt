@@ -1,6 +1,6 @@
-ghost use Rattle.std.specs.Prelude.{◌≡◌, ◌<◌, ◌+◌, ◌^◌, if◌then◌else◌, length, slice_get};
+ghost use Rattle.std.specs.Prelude.{◌≡◌, ◌<◌, ◌≤◌, ◌+◌, ◌^◌, if◌then◌else◌, length, slice_get};
 ghost use Rattle.sk_isa.specs.Objects.{signature_at};
-ghost use Rattle.sk_tree.specs.Parameters.{index_dimension};
+ghost use Rattle.sk_tree.specs.Parameters.{index_dimension, leading_scalars};
 
 use sk_isa::{Instr, Object, Plan};
 use sk_kernel::At;
@@ -33,6 +33,31 @@ pub fn index_of(object: &Object, function: u32) -> Option<u8>
     match signature.params.as_slice().first() {
         Some(ParamKind::Index(dimension)) => Some(*dimension),
         _ => None,
+    }
+}
+
+/// How many scalars stand before the first container of a function.
+pub fn leading_of(object: &Object, function: u32) -> usize
+    requires { function < length object.now.signatures }
+    ensures { result ≡ leading_scalars (signature_at object.now function).params }
+{
+    leading_in(
+        object.signatures.as_slice()[function as usize]
+            .params
+            .as_slice(),
+    )
+}
+
+/// How many scalars stand before the first container.
+fn leading_in(kinds: &[ParamKind]) -> usize
+    ensures count { result ≡ leading_scalars kinds.now }
+    ensures few { result ≤ length kinds.now }
+{
+    match kinds {
+        [] => 0,
+        [ParamKind::Scalar(_), rest @ ..] => 1 + leading_in(rest),
+        [ParamKind::Index(_), rest @ ..] => leading_in(rest),
+        _ => 0,
     }
 }
 

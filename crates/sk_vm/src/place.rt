@@ -81,7 +81,7 @@ fn product(sizes: &[u32]) -> u32
 
 /// A coordinate of a place, by its name.
 #[inline]
-pub fn field(place: &[u32], name: &[u8]) -> Cell
+pub fn coordinate(place: &[u32], name: &[u8]) -> Cell
     requires { HasField place.now name.now }
     ensures { result ≡ field_of (Place place.now) name.now }
 {

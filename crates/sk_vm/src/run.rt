@@ -5,6 +5,7 @@ ghost use Rattle.sk_isa.specs.Objects.{signature_at};
 ghost use Rattle.sk_isa.specs.Soundness.{SuitParams};
 ghost use Rattle.sk_meaning.specs.Evaluation.{Value};
 ghost use Rattle.sk_vm.specs.Calls.{HasSpace, MayCall};
+ghost use Rattle.sk_vm.specs.Places.{OfContainers};
 ghost use Rattle.sk_vm.specs.Rooms.{Begins, begun_with};
 ghost use Rattle.sk_vm.specs.Points.{values_in, point_at, led_to};
 
@@ -12,23 +13,25 @@ use crate::entry::Entry;
 use crate::parts::instr_at;
 use crate::stack::Stand;
 use crate::step::{Lead, step};
+use crate::surroundings::Surroundings;
 use sk_base::{Cell, Trap};
 
 /// Runs a function whose arguments stand in its slots, and gives its value beside the turns that are then left.
 ///
-/// The values of the calls below stand in `stack` and in `rest`, and `place` has the coordinates that its index is given.
+/// The values of the calls below stand in `stack` and in `rest`, and `given` has what stands for its other parameters.
 #[cycle(run)]
-pub fn run_code(
+pub fn run_code<S: Surroundings>(
     entry: &Entry<'_>,
-    place: &[u32],
+    given: &S,
     stack: &mut [Cell],
     slots: &mut [Cell],
     rest: &mut [Cell],
     turns: u32,
 ) -> Result<(Cell, u32), Trap>
-    requires begins { Begins entry.now.object entry.now.function place.now slots.old }
+    requires begins { Begins entry.now.object entry.now.function (S.other given.now) slots.old }
+    requires readable { OfContainers (signature_at entry.now.object entry.now.function).params (S.readable given.now) }
     requires space { HasSpace entry.now stack.old (length slots.old + length rest.old) }
-    ensures { result ≡ function_of entry.now.object entry.now.function (begun_with entry.now.object entry.now.function place.now slots.old) turns }
+    ensures { result ≡ function_of entry.now.object entry.now.function (begun_with entry.now.object entry.now.function (S.other given.now) slots.old) turns }
 {
     let instrs = entry.instrs();
     let mut stand = Stand {
@@ -37,11 +40,11 @@ pub fn run_code(
         turns,
     };
     loop {
-        match step(instr_at(instrs, stand.at), place, stand, stack, slots) {
+        match step(instr_at(instrs, stand.at), given, stand, stack, slots) {
             Lead::Goes(next) => stand = next,
             Lead::Ends(value, left) => return Ok((value, left)),
             Lead::Traps(trap) => return Err(trap),
-            Lead::Calls(callee) => match called(&entry.of(callee), place, stand, stack, rest) {
+            Lead::Calls(callee) => match called(&entry.of(callee), given, stand, stack, rest) {
                 Ok(next) => stand = next,
                 Err(trap) => return Err(trap),
             },
@@ -49,12 +52,12 @@ pub fn run_code(
     }
 }
 
-/// Calls a function with the topmost values, and puts its value where they stood. It has no index, so the caller's place is
-/// nothing to it.
+/// Calls a function with the topmost values, and puts its value where they stood. It takes scalars alone, so what the caller is
+/// given beside is nothing to it.
 #[cycle(run)]
-fn called(
+fn called<S: Surroundings>(
     callee: &Entry<'_>,
-    place: &[u32],
+    given: &S,
     stand: Stand,
     stack: &mut [Cell],
     rest: &mut [Cell],
@@ -71,7 +74,7 @@ fn called(
     let (slots, below) = rest.split_at_mut(callee.slot_count());
     let (_, free) = stack.split_at_mut(base);
     enter(&free[..takes], slots);
-    match run_code(callee, place, free, slots, below, stand.turns) {
+    match run_code(callee, given, free, slots, below, stand.turns) {
         Ok((value, turns)) => {
             free[0] = value;
             Ok(Stand {

@@ -1,11 +1,13 @@
 ghost use Rattle.std.specs.Prelude.{◌≡◌, ℕ, ℤ, if◌then◌else◌, ◌<◌, ◌≤◌, ◌+◌, ◌-◌, ◌^◌, suc, pos, neg_ℤ, false, List, ◌∷◌, length, slice_set, slice_index_or};
 ghost use Rattle.sk_base.specs.Arithmetic.{InRange, is_shift, wrapped};
+ghost use Rattle.sk_meaning.specs.Evaluation.{Argument, element_at};
 ghost use Rattle.sk_meaning.specs.Expressions.{holds};
 ghost use Rattle.sk_vm.specs.Needs.{Needs};
-ghost use Rattle.sk_vm.specs.Points.{values_in, point_at, LeadsTo, KeepsForCall, Combines};
+ghost use Rattle.sk_vm.specs.Places.{IsWhole};
+ghost use Rattle.sk_vm.specs.Points.{values_in, point_at, LeadsTo, KeepsForCall, Combines, ReadsItem};
 
-use crate::place::field;
 use crate::stack::{Stand, last, put};
+use crate::surroundings::Surroundings;
 use sk_base::{Cell, Op, Trap, Ty, binary, convert};
 use sk_isa::Instr;
 
@@ -21,19 +23,19 @@ pub enum Lead {
     Traps(Trap),
 }
 
-/// Executes an instruction of a function, but for a call. `place` has the coordinates that the function's index is given.
+/// Executes an instruction of a function, but for a call. `given` has what stands for the parameters that are no scalars.
 #[inline]
-pub fn step(
+pub fn step<S: Surroundings>(
     instr: &Instr,
-    place: &[u32],
+    given: &S,
     stand: Stand,
     stack: &mut [Cell],
     slots: &mut [Cell],
 ) -> Lead
     requires address { stand.at + 1 < 2 ^ 64 }
     requires inside { stand.top ≤ length stack.old }
-    requires needs { Needs instr.now place.now stand.top stack.old slots.old }
-    ensures leads { LeadsTo instr.now place.now (point_at stand stack.old slots.old) result stack.new slots.new }
+    requires needs { Needs instr.now (S.other given.now) (S.readable given.now) stand.top stack.old slots.old }
+    ensures leads { LeadsTo instr.now (S.other given.now) (point_at stand stack.old slots.old) result stack.new slots.new }
     ensures kept { KeepsForCall result stack.old stack.new slots.old slots.new }
 {
     match instr {
@@ -41,7 +43,8 @@ pub fn step(
         Instr::Pop => Lead::Goes(stand.past(stand.top - 1)),
         Instr::Load(slot) => pushed(slots[*slot as usize], stand, stack),
         Instr::Store(slot) => stored(*slot, stand, stack, slots),
-        Instr::Field(_, name) => pushed(field(place, name.as_bytes()), stand, stack),
+        Instr::Field(slot, name) => pushed(given.field(*slot, name.as_bytes()), stand, stack),
+        Instr::Item(slot, places) => item(*slot, *places, given, stand, stack),
         Instr::Neg(ty) => {
             let value = last(stack, stand.top);
             replaced(negated(*ty, value), stand, stack)
@@ -162,7 +165,7 @@ fn tested(to: u32, stand: Stand, stack: &[Cell]) -> Lead
 #[inline]
 fn turned(stand: Stand) -> Lead
     requires address { stand.at + 1 < 2 ^ 64 }
-    ensures { (place : List ℕ) (stack slots : List ℤ) → LeadsTo Instr.Turn place (point_at stand stack slots) result stack slots }
+    ensures { (other : ℕ → Argument) (stack slots : List ℤ) → LeadsTo Instr.Turn other (point_at stand stack slots) result stack slots }
 {
     if stand.turns == 0 {
         return Lead::Traps(Trap::Turns);
@@ -172,4 +175,31 @@ fn turned(stand: Stand) -> Lead
         top: stand.top,
         turns: stand.turns - 1,
     })
+}
+
+/// The element of a container in place of its coordinates, or its trap.
+#[inline]
+fn item<S: Surroundings>(
+    slot: u32,
+    places: u32,
+    given: &S,
+    stand: Stand,
+    stack: &mut [Cell],
+) -> Lead
+    requires address { stand.at + 1 < 2 ^ 64 }
+    requires enough { places ≤ stand.top }
+    requires inside { stand.top ≤ length stack.old }
+    requires room { stand.top < length stack.old + places }
+    requires whole { IsWhole (S.other given.now slot) }
+    requires readable { S.readable given.now slot }
+    ensures { ReadsItem slot places (S.other given.now) stand stack.old stack.new result }
+{
+    let base = stand.top - places as usize;
+    match given.item(slot, &stack[base..stand.top]) {
+        Ok(value) => {
+            put(stack, base, value);
+            Lead::Goes(stand.past(base + 1))
+        }
+        Err(trap) => Lead::Traps(trap),
+    }
 }

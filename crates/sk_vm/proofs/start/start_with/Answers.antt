@@ -4,10 +4,11 @@ use Rattle.sk_base.specs.Arithmetic.{InRange}
 use Rattle.sk_isa.specs.Coded.{function_of}
 use Rattle.sk_isa.specs.Objects.{signature_at}
 use Rattle.sk_isa_laws.proofs.TypedLists.{suited-length}
-use Rattle.sk_meaning.specs.Evaluation.{Argument, Value, turn_limit, value_only}
+use Rattle.sk_meaning.specs.Evaluation.{Argument, Place, Value, turn_limit, value_only}
 use Rattle.sk_vm.proofs.Calls.{params_fit, begins-entered}
 use Rattle.sk_vm.proofs.Chains.{slots-within}
 use Rattle.sk_vm.proofs.Given.{value-in_range}
+use Rattle.sk_vm.proofs.Places.{no_containers}
 use Rattle.sk_vm.specs.Rooms.{Begins, begun_with}
 use Rattle.sk_base.specs.declared.number.Trap.{Trap}
 use Rattle.sk_vm.proofs.start.start_with.Goals as goal
@@ -19,6 +20,10 @@ split_at_mut-own-requires c =
     let count = c.slot_count.ensures.count in
     let room = c.requires.space.slots in
     omega arith
+
+-- nothing is given beside
+abbrev nothing : ℕ → Argument
+nothing slot = Place []
 
 -- the arguments as they were stored
 entered : {slots rest : List ℤ} {a b a_stored b_stored : ℤ} → slots ≡ a_stored ∷ b_stored ∷ rest → a_stored ≡ a → b_stored ≡ b → slots ≡ a ∷ b ∷ rest
@@ -34,16 +39,16 @@ enter-requires c =
 
 -- the slots begin with the two arguments
 begins : (c : After-enter)
-    → Begins c.args.entry.now.object c.args.entry.now.function [] c.enter.new.slots
-    × (begun_with c.args.entry.now.object c.args.entry.now.function [] c.enter.new.slots ≡ Value c.args.a ∷ Value c.args.b ∷ [])
+    → Begins c.args.entry.now.object c.args.entry.now.function nothing c.enter.new.slots
+    × (begun_with c.args.entry.now.object c.args.entry.now.function nothing c.enter.new.slots ≡ Value c.args.a ∷ Value c.args.b ∷ [])
 begins c =
     let count = suited-length (signature_at c.args.entry.now.object c.args.entry.now.function).params (Value c.args.a ∷ Value c.args.b ∷ []) c.requires.suits in
-    begins-entered c.args.entry.now.object c.args.entry.now.function [] (c.args.a ∷ c.args.b ∷ []) c.enter.new.slots (length c.split_at_mut-own.result.0.now)
+    begins-entered c.args.entry.now.object c.args.entry.now.function nothing (c.args.a ∷ c.args.b ∷ []) c.enter.new.slots (length c.split_at_mut-own.result.0.now)
     (entered c.enter.ensures (to_z-of_z w64 c.args.a c.ranges.a) (to_z-of_z w64 c.args.b c.ranges.b)) (c.split_at_mut-own.ensures.front_len ∙ c.slot_count.ensures.count) c.enter.auto.slots (omega arith) c.requires.suits
 
 -- the function's value is that for the two arguments
 gives : (c : After-enter) (value : Result (ℤ × ℕ) Trap)
-    → value ≡ function_of c.args.entry.now.object c.args.entry.now.function (begun_with c.args.entry.now.object c.args.entry.now.function [] c.enter.new.slots) turn_limit
+    → value ≡ function_of c.args.entry.now.object c.args.entry.now.function (begun_with c.args.entry.now.object c.args.entry.now.function nothing c.enter.new.slots) turn_limit
     → value ≡ function_of c.args.entry.now.object c.args.entry.now.function (Value c.args.a ∷ Value c.args.b ∷ []) turn_limit
 gives c value is = is ∙ ap (λ (xs : List Argument). function_of c.args.entry.now.object c.args.entry.now.function xs turn_limit) (begins c).1
 
@@ -65,3 +70,7 @@ returns-in-Ok-clause-range c =
 
 pub returns-in-Err-clause-value : goal.returns-in-Err-clause-value
 returns-in-Err-clause-value c = ap value_only (sym c.in-Err.is ∙ gives (goal.at.returns-in-Err-clause-value c).After-enter _ c.run_code.ensures)
+
+pub run_code-requires-clause-readable : goal.run_code-requires-clause-readable
+run_code-requires-clause-readable c =
+    no_containers (signature_at c.args.entry.now.object c.args.entry.now.function).params (c.args.a ∷ c.args.b ∷ []) _ c.requires.suits

@@ -55,7 +55,7 @@ evaluate-requires g c =
     let suits = subst (λ (r : Reading). SuitsRun (function_meaning c.args.object.now c.args.self.now.function r) (g.D.Data.means c.args.source.now) c.args.at.place c.args.at.pair (length c.args.out.now)) reading c.requires.suits in
     record {
       lends = λ behind less k small.
-          lends c.args.object.now entered.sound entered.parameters c.args.self.now.function entered.there inside.elements inside.pairs counts (g.D.Data.means c.args.source.now)
+          lends c.args.object.now entered.sound c.args.self.now.function entered.there c.requires.columns inside.elements inside.pairs counts (g.D.Data.means c.args.source.now)
           c.args.at.place c.args.at.pair (length c.args.out.now) suits behind less k (subst (λ (n : ℕ). k < n) scalars small);
     }
 
@@ -84,7 +84,7 @@ evaluated g c done =
     subst (λ (r : Reading). SuitsRun (function_meaning c.args.object.now c.args.self.now.function r) source c.args.at.place c.args.at.pair (length c.evaluate.new.out)) (sym reading)
     (subst (λ (n : ℕ). SuitsRun (function_meaning c.args.object.now c.args.self.now.function c.args.self.now.reading) source c.args.at.place c.args.at.pair n) (sym size) c.requires.suits) in
     subst (λ (r : Reading). AllEvaluated (function_meaning c.args.object.now c.args.self.now.function r) source c.args.at.place c.args.at.pair c.evaluate.new.out) reading
-    (all_evaluated c.args.object.now entered.sound entered.parameters c.args.self.now.function entered.there inside.elements inside.pairs counts source c.args.at.place c.args.at.pair c.evaluate.new.out suits
+    (all_evaluated c.args.object.now entered.sound c.args.self.now.function entered.there c.requires.columns inside.elements inside.pairs counts source c.args.at.place c.args.at.pair c.evaluate.new.out suits
     (λ behind less.
     subst₂ (λ (is : List Instr) (m : ℕ). Gives is
     (begun_at m (length params - indices_in params) (slots_at c.args.object.now.functions c.args.self.now.function - indices_in params) (c.args.at.place + behind)

@@ -54,6 +54,6 @@ abbrev pub MayRead : (index : Option ℕ) → (elements : ℕ) → (pairs : Bool
 MayRead index elements false = Unit {0}
 MayRead index elements true = (elements ≡ 2) × CountsPairs index
 
--- a frame of a function, all of whose parameters are uniform arguments
+-- a frame of a function, all of whose scalars are uniform arguments
 abbrev pub IsUnread : (function : ℕ) → Framed → Type 0
 IsUnread function frame = (frame.function ≡ function) × (frame.reading ≡ reading_by 0 false)

@@ -58,7 +58,7 @@ impl Model for Frame {
 }
 
 impl Frame {
-    /// A frame for a function, with room for all calls below it. All its parameters are uniform arguments.
+    /// A frame for a function, with room for all calls below it. All its scalars are uniform arguments.
     ///
     /// It takes as much room as the function and its calls may have in use at a time, and where it is evaluated for blocks of
     /// places, a row of a block's length for each level but the first, of values on the stack and of locals.
@@ -83,7 +83,7 @@ impl Frame {
         Frame::with_room(alloc, rooms.room(), rooms.height())
     }
 
-    /// Turns the frame to a function, all whose parameters are then uniform arguments. It takes a time that does not depend on
+    /// Turns the frame to a function, all whose scalars are then uniform arguments. It takes a time that does not depend on
     /// the program, and memory only where there is less room than some function of the program needs.
     pub fn turn(
         &mut self,
@@ -156,8 +156,9 @@ impl Frame {
         self.straight = straight;
     }
 
-    /// Sets how parameters are read: the first `n` scalars from operands 0 to n - 1, each at the place, and the others as
-    /// uniform arguments. With `pairs` operand 1 is read at the pair, and an index is the place and the pair.
+    /// Sets how parameters are read: the first `n` scalars from operands, each at the place, and the others as uniform
+    /// arguments. Every container has an operand of its own, in the order of all parameters. With `pairs` operand 1 is read at
+    /// the pair, and an index is the place and the pair.
     pub fn elements(&mut self, n: u32, pairs: bool)
         requires { MayRead self.old.index n pairs }
         ensures { self.new ≡ record self.old { reading = reading_by n pairs } }

@@ -3,4 +3,5 @@ pub mod Lists
 pub mod Parameters
 pub mod Parts
 pub mod PlainParts
+pub mod Slots
 pub mod Truths

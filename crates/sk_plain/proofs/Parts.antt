@@ -7,7 +7,7 @@ use Rattle.sk_tree.specs.declared.tree.ParamKind.{ParamKind}
 use Rattle.sk_tree.specs.declared.tree.Statement.{Statement}
 use Rattle.sk_tree.specs.declared.tree.What.{What, What-F, map-What}
 use Rattle.sk_scheme.specs.Scheme.{Compiled, compiled_of, Emitting, emitting_of, Standing}
-use Rattle.sk_plain.specs.Plain.{Counts, ScalarNames, is_plain_expression, Plainness, plainness_of, returns_of}
+use Rattle.sk_plain.specs.Plain.{Parameters, NamedKinds, is_plain_expression, Plainness, plainness_of, returns_of}
 
 -- the address of a statement's code is another
 abbrev pub moved : Standing → ℕ → List ParamKind → Standing
@@ -20,16 +20,20 @@ module _ {P : Expr → Type 0} where
   abbrev pub codes_at : List ((e : Expr) × P e) → List Compiled
   codes_at ys = map compiled_of (exprs_of ys)
 
-  abbrev pub plains : List ((e : Expr) × P e) → List (Counts → ScalarNames → Bool)
+  abbrev pub plains : List ((e : Expr) × P e) → List (Parameters → NamedKinds → Bool)
   plains ys = map is_plain_expression (exprs_of ys)
 
   pub plains_length : (ys : List ((e : Expr) × P e)) → length (plains ys) ≡ length ys
   plains_length [] = refl
   plains_length (y ∷ ys) = ap suc (plains_length ys)
 
+  pub codes_length : (ys : List ((e : Expr) × P e)) → length (codes_at ys) ≡ length ys
+  codes_length [] = refl
+  codes_length (y ∷ ys) = ap suc (codes_length ys)
+
   -- all of them are plain
-  abbrev pub parts_plain : Counts → List ((e : Expr) × P e) → ScalarNames → Bool
-  parts_plain counts ys names = list_all (λ part. part counts names) (plains ys)
+  abbrev pub parts_plain : Parameters → List ((e : Expr) × P e) → NamedKinds → Bool
+  parts_plain parameters ys names = list_all (λ part. part parameters names) (plains ys)
 
 module _ {Q : Statement → Type 0} where
   abbrev pub statements_of : List ((s : Statement) × Q s) → List Statement

@@ -1,3 +1,4 @@
+pub mod Codes
 pub mod Means
 pub mod Plain
 pub mod PlainLaws

@@ -153,6 +153,13 @@ ArePlain before [] = Unit {0}
 ArePlain before (function ∷ functions) =
     IsPlainFunction before function × ArePlain ((function.name, kinds_of function.params) ∷ before) functions
 
+abbrev pub takes_scalars : Function → Bool
+takes_scalars function = list_all (λ param. is_scalar param.kind) function.params
+
+-- every parameter of every function before main is a scalar
+abbrev pub FunctionsTakeScalars : Program → Type 0
+FunctionsTakeScalars program = list_all takes_scalars (functions_before_main program) ≡ true
+
 -- A program whose functions before main are plain, and whose instances fit them.
 pub record IsPlain (program : Program) : Type 0 where
   pub functions : ArePlain [] (functions_before_main program)

@@ -21,7 +21,7 @@ module _ (routine : Routine) (ret : Ty) where
   pub record GoesOn (slots : List ℤ) (at : ℕ) (stack : List ℤ) (turns to : ℕ) (scope : List (List ℕ × Slot)) (bound : ℕ) (values : Scope) (left : ℕ) : Type 0 where
     pub after : List ℤ
     pub size : length after ≡ length slots
-    pub agree : Agree scope values after bound
+    pub agree : Agree routine.arguments scope values after bound
     pub fewer : left ≤ turns
     pub leads : Leads routine (stands at stack slots turns) (stands to [] after left)
 
@@ -61,7 +61,7 @@ module _ (routine : Routine) (ret : Ty) where
   flow_before slots at stack turns to to' scope bound more (Going values) left le l r = record {
     after = r.after;
     size = r.size;
-    agree = agree_wider scope values r.after bound more le r.agree;
+    agree = agree_wider routine.arguments scope values r.after bound more le r.agree;
     fewer = r.fewer;
     leads = leads_on routine _ _ _ r.leads (l r.after left);
   }
@@ -76,7 +76,7 @@ module _ (routine : Routine) (ret : Ty) where
 
   flow_then : (slots : List ℤ) (at : ℕ) (stack : List ℤ) (turns at1 to : ℕ) (scope scope2 : List (List ℕ × Slot)) (bound bound2 : ℕ) (flow : Flow) (left : ℕ)
       (next : Scope → ℕ → Result (Flow × ℕ) Trap) → RunsFlow slots at stack turns at1 scope bound flow left
-      → ((values : Scope) (after : List ℤ) (left : ℕ) → left ≤ turns → length after ≡ length slots → Agree scope values after bound → Runs after at1 [] left to scope2 bound2 (next values left))
+      → ((values : Scope) (after : List ℤ) (left : ℕ) → left ≤ turns → length after ≡ length slots → Agree routine.arguments scope values after bound → Runs after at1 [] left to scope2 bound2 (next values left))
       → Runs slots at stack turns to scope2 bound2 (and_then (Ok (flow, left)) next)
   flow_then slots at stack turns at1 to scope scope2 bound bound2 (Going values) left next r f =
       runs_after slots r.after at at1 stack [] turns left to scope2 bound2 (next values left) r.fewer r.size r.leads (f values r.after left r.fewer r.size r.agree)
@@ -85,7 +85,7 @@ module _ (routine : Routine) (ret : Ty) where
   -- statements one after another
   pub runs_then : (slots : List ℤ) (at : ℕ) (stack : List ℤ) (turns at1 to : ℕ) (scope scope2 : List (List ℕ × Slot)) (bound bound2 : ℕ) (o : Result (Flow × ℕ) Trap)
       (next : Scope → ℕ → Result (Flow × ℕ) Trap) → Runs slots at stack turns at1 scope bound o
-      → ((values : Scope) (after : List ℤ) (left : ℕ) → left ≤ turns → length after ≡ length slots → Agree scope values after bound → Runs after at1 [] left to scope2 bound2 (next values left))
+      → ((values : Scope) (after : List ℤ) (left : ℕ) → left ≤ turns → length after ≡ length slots → Agree routine.arguments scope values after bound → Runs after at1 [] left to scope2 bound2 (next values left))
       → Runs slots at stack turns to scope2 bound2 (and_then o next)
   runs_then slots at stack turns at1 to scope scope2 bound bound2 (Ok done) next r f =
       flow_then slots at stack turns at1 to scope scope2 bound bound2 done.0 done.1 next r f
@@ -111,7 +111,7 @@ module _ (routine : Routine) (ret : Ty) where
       by_test false e = runs_after slots slots at to (a ∷ []) [] turns turns end scope bound (next false) (omega arith) refl (zero_fails routine to at a [] slots turns here e) q
 
   -- nothing is done
-  pub runs_nothing : (slots : List ℤ) (at turns to : ℕ) (scope : List (List ℕ × Slot)) (bound : ℕ) (values : Scope) → at ≡ to → Agree scope values slots bound
+  pub runs_nothing : (slots : List ℤ) (at turns to : ℕ) (scope : List (List ℕ × Slot)) (bound : ℕ) (values : Scope) → at ≡ to → Agree routine.arguments scope values slots bound
       → Runs slots at [] turns to scope bound (Ok (Going values, turns))
   runs_nothing slots at turns to scope bound values e agree =
       record { after = slots; size = refl; agree = agree; fewer = omega arith; leads = leads_same routine at to [] slots turns e }
@@ -119,7 +119,7 @@ module _ (routine : Routine) (ret : Ty) where
   -- a value is stored
   pub runs_store : (ty : Ty) (slots : List ℤ) (at turns at1 to slot : ℕ) (scope : List (List ℕ × Slot)) (bound : ℕ) (o : Result (ℤ × ℕ) Trap) (values : ℤ → Scope)
       → Gives routine ty slots at [] turns at1 [] (then_do o (λ a s. Ok (wrapped ty a, s))) → slice_get routine.instrs at1 ≡ Some (instr.Store slot) → suc at1 ≡ to → slot < length slots
-      → ((v : ℤ) → Agree scope (values v) (slice_set slots slot (wrapped ty v)) bound)
+      → ((v : ℤ) → Agree routine.arguments scope (values v) (slice_set slots slot (wrapped ty v)) bound)
       → Runs slots at [] turns to scope bound (then_do o (λ v s. Ok (Going (values v), s)))
   runs_store ty slots at turns at1 to slot scope bound (Ok done) values g here e within agree =
       let w : ℤ = wrapped ty done.0 in

@@ -10,7 +10,7 @@ use Rattle.sk_isa.specs.Coded.{Routine, turning}
 use Rattle.sk_scheme.specs.Scheme.{Slot, compiled_of, Within, Standing, Emitted, Emitting, around_in, block_emitted, loop_emitted}
 use Rattle.sk_isa.specs.declared.code.Instr.{Instr}
 use Rattle.sk_isa.specs.declared.code.Instr.TheVariants as instr
-use Rattle.sk_plain.specs.Plain.{Counts, Plainness}
+use Rattle.sk_plain.specs.Plain.{Parameters, Plainness}
 use Rattle.sk_scheme_runs.proofs.Runs.{HasAt, has_front, has_back, stands, last_step}
 use Rattle.sk_scheme_runs.proofs.ExpressionNodes.{jump_leads}
 use Rattle.sk_plain.proofs.Bindings.{names_of}
@@ -21,7 +21,7 @@ use Rattle.sk_scheme_runs.proofs.StatementNodes.{expression_gives}
 use Rattle.sk_plain.proofs.PlainParts.{IsLoop, plain_block}
 use Rattle.sk_scheme_runs.proofs.Choices.{IsBlock, IsFollowing}
 
-module _ (routine : Routine) (counts : Counts) (within : Within) (callables : Callables) (test : Expr) (ds : List Doing) (es : List Emitting) (js : List Plainness) (step : Doing) (emits : Emitting) (judged : Plainness) where
+module _ (routine : Routine) (parameters : Parameters) (within : Within) (callables : Callables) (test : Expr) (ds : List Doing) (es : List Emitting) (js : List Plainness) (step : Doing) (emits : Emitting) (judged : Plainness) where
   -- the parts of a loop's code
   abbrev pub first_at : Standing → List Instr
   first_at st = (compiled_of test).code (around_in within st) st.at
@@ -41,12 +41,12 @@ module _ (routine : Routine) (counts : Counts) (within : Within) (callables : Ca
   abbrev pub loop_at : Standing → Emitted
   loop_at st = loop_emitted (compiled_of test) (block_emitted es) emits within st
 
-  pub loop_slots : IsBlock routine counts within callables ds es js → IsFollowing routine counts within callables step emits judged → (st : Standing)
+  pub loop_slots : IsBlock routine parameters within callables ds es js → IsFollowing routine parameters within callables step emits judged → (st : Standing)
       → (length st.slots ≤ length (body_at st).slots) × (length (body_at st).slots ≤ length (loop_at st).slots)
   loop_slots f g st = (f.keeps.slots (body_stands st), g.keeps.slots (step_stands st))
 
-  module _ (is : IsRun routine counts within.functions callables test) (f : IsBlock routine counts within callables ds es js) (g : IsFollowing routine counts within callables step emits judged)
-      (st : Standing) (fine : IsLoop counts (names_of st.scope) test js judged) (has : HasAt routine.instrs st.at (loop_at st).code) where
+  module _ (is : IsRun routine parameters within.functions callables test) (f : IsBlock routine parameters within callables ds es js) (g : IsFollowing routine parameters within callables step emits judged)
+      (st : Standing) (fine : IsLoop parameters (names_of st.scope) test js judged) (has : HasAt routine.instrs st.at (loop_at st).code) where
     abbrev pub end_at : ℕ
     end_at = st.at + length (loop_at st).code
 
@@ -104,8 +104,8 @@ module _ (routine : Routine) (counts : Counts) (within : Within) (callables : Ca
         (has_back routine.instrs st.at (head ++ (step_at st).code) (instr.Jump st.at ∷ []) has).0
 
     -- a turn: the body, the step, and the way back to the test
-    turn_runs : (next : Scope → ℕ → Result (Flow × ℕ) Trap) (values : Scope) (slots : List ℤ) (left : ℕ) → Agree st.scope values slots (length st.slots) → bound ≤ length slots
-        → ((values : Scope) (slots : List ℤ) (turns : ℕ) → turns ≤ left → Agree st.scope values slots (length st.slots) → bound ≤ length slots
+    turn_runs : (next : Scope → ℕ → Result (Flow × ℕ) Trap) (values : Scope) (slots : List ℤ) (left : ℕ) → Agree routine.arguments st.scope values slots (length st.slots) → bound ≤ length slots
+        → ((values : Scope) (slots : List ℤ) (turns : ℕ) → turns ≤ left → Agree routine.arguments st.scope values slots (length st.slots) → bound ≤ length slots
         → Runs routine within.ret slots st.at [] turns end_at st.scope bound (next values turns))
         → Runs routine within.ret slots (body_stands st).at [] left end_at st.scope bound
         (and_then (in_block ds callables values left) (λ scope turns. and_then (step callables scope turns) (λ scope turns. next scope turns)))
@@ -113,7 +113,7 @@ module _ (routine : Routine) (counts : Counts) (within : Within) (callables : Ca
         let l = loop_slots f g st in
         let names = names_of st.scope in
         runs_then routine within.ret slots (body_stands st).at [] left (step_stands st).at end_at st.scope st.scope (length (body_at st).slots) bound (in_block ds callables values left) _
-        (f.runs (body_stands st) values slots left names (plain_block counts js names fine.body_plain) agree (omega (arith, room, l.1)) has_body)
+        (f.runs (body_stands st) values slots left names (plain_block parameters js names fine.body_plain) agree (omega (arith, room, l.1)) has_body)
         (λ values2 slots2 left2 fewer2 size2 agree2.
         let same = g.keeps.assigns fine.assigns (step_stands st) in
         runs_then routine within.ret slots2 (step_stands st).at [] left2 ((step_stands st).at + length (step_at st).code) end_at st.scope st.scope bound bound (step callables values2 left2) _
@@ -122,26 +122,26 @@ module _ (routine : Routine) (counts : Counts) (within : Within) (callables : Ca
         (λ values3 slots3 left3 fewer3 size3 agree3.
         runs_after routine within.ret slots3 slots3 ((step_stands st).at + length (step_at st).code) st.at [] [] left3 left3 end_at st.scope bound (next values3 left3) (omega arith) refl
         (jump_leads routine st.at ((step_stands st).at + length (step_at st).code) [] slots3 left3 has_jump)
-        (again values3 slots3 left3 (omega (arith, fewer2, fewer3)) (agree_lower st.scope values3 values slots3 slots bound (length st.slots) agree3 agree) (omega (arith, room, size2, size3)))))
+        (again values3 slots3 left3 (omega (arith, fewer2, fewer3)) (agree_lower routine.arguments st.scope values3 values slots3 slots bound (length st.slots) agree3 agree) (omega (arith, room, size2, size3)))))
 
     -- the loop from its test on
-    pub loop_runs : (most : ℕ) (values : Scope) (slots : List ℤ) (turns : ℕ) → turns ≤ most → Agree st.scope values slots (length st.slots) → bound ≤ length slots
+    pub loop_runs : (most : ℕ) (values : Scope) (slots : List ℤ) (turns : ℕ) → turns ≤ most → Agree routine.arguments st.scope values slots (length st.slots) → bound ≤ length slots
         → Runs routine within.ret slots st.at [] turns end_at st.scope bound (looped most test (in_block ds) step callables values turns)
     unfolding looped
     loop_runs zero values slots turns le agree room =
         let l = loop_slots f g st in
         runs_value routine within.ret ((compiled_of test).ty (around_in within st)) slots st.at turns test_end end_at st.scope bound (value_in test callables values turns)
         (λ value turns. if holds value then Err Turns else Ok (Going values, turns))
-        (expression_gives routine counts within callables test is st values slots turns fine.test_plain agree has_test)
+        (expression_gives routine parameters within callables test is st values slots turns fine.test_plain agree has_test)
         (λ v left fewer fits.
         let none : left ≡ 0 = omega (arith, le, fewer) in
         runs_branch routine within.ret slots test_end left ends end_at st.scope bound v (λ b. if b then Err Turns else Ok (Going values, left)) has_turn.0
         (last_step routine instr.Turn (stands (suc test_end) [] slots left) (Err Turns) has_turn.1.0 (ap (turning (stands (suc test_end) [] slots left)) none))
-        (runs_nothing routine within.ret slots ends left end_at st.scope bound values ends_at (agree_wider st.scope values slots (length st.slots) bound (omega (arith, l.0, l.1)) agree)))
+        (runs_nothing routine within.ret slots ends left end_at st.scope bound values ends_at (agree_wider routine.arguments st.scope values slots (length st.slots) bound (omega (arith, l.0, l.1)) agree)))
     loop_runs (suc fewer) values slots turns le agree room =
         let l = loop_slots f g st in
         runs_value routine within.ret ((compiled_of test).ty (around_in within st)) slots st.at turns test_end end_at st.scope bound (value_in test callables values turns) _
-        (expression_gives routine counts within callables test is st values slots turns fine.test_plain agree has_test)
+        (expression_gives routine parameters within callables test is st values slots turns fine.test_plain agree has_test)
         (λ v left less fits.
         runs_branch routine within.ret slots test_end left ends end_at st.scope bound v
         (λ b. if b then elim left as (λ x. Result (Flow × ℕ) Trap) [
@@ -154,4 +154,4 @@ module _ (routine : Routine) (counts : Counts) (within : Within) (callables : Ca
         (and_then (in_block ds callables values left2) (λ scope turns. and_then (step callables scope turns) (λ scope turns. looped fewer test (in_block ds) step callables scope turns)))) (sym body_begins)
         (turn_runs (looped fewer test (in_block ds) step callables) values slots left2 agree room
         (λ values3 slots3 turns3 le3 agree3 room3. loop_runs fewer values3 slots3 turns3 (omega (arith, le, less, lt, le3)) agree3 room3))))
-        (runs_nothing routine within.ret slots ends left end_at st.scope bound values ends_at (agree_wider st.scope values slots (length st.slots) bound (omega (arith, l.0, l.1)) agree)))
+        (runs_nothing routine within.ret slots ends left end_at st.scope bound values ends_at (agree_wider routine.arguments st.scope values slots (length st.slots) bound (omega (arith, l.0, l.1)) agree)))

@@ -5,4 +5,4 @@
 
 mod laws;
 
-pub use laws::{sound_code_means_source, sound_code_runs_as_source};
+pub use laws::{sound_code_means_source, sound_code_runs_as_source, sound_functions_mean_source};

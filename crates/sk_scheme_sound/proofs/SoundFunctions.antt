@@ -13,11 +13,11 @@ use Rattle.sk_scheme.specs.Scheme.{Slot, Known, Within, Standing, Emitted, all_e
 use Rattle.sk_isa.specs.Soundness.{AreSlots, HasTypes, IsFineAt, IsSoundCode, Named, Types, is_kind, is_scalar, left_by, names_what_is_there, serves}
 use Rattle.sk_isa.specs.declared.code.Code.{Code}
 use Rattle.sk_isa.specs.declared.object.Signature.{Signature}
-use Rattle.sk_plain.specs.Plain.{Counts, ScalarNames, IsPlainFunction, ArePlain, all_behind, plainness_of, returns_of}
-use Rattle.sk_plain.proofs.Truths.{and_left, and_right, is_some_is}
+use Rattle.sk_plain.specs.Plain.{Parameters, NamedKinds, IsPlainFunction, ArePlain, all_behind, plainness_of, returns_of}
+use Rattle.sk_plain.proofs.Truths.{is_some_is}
 use Rattle.sk_plain.proofs.Lists.{slice_get-at, slice_get-in, all_append}
 use Rattle.sk_scheme_sound.proofs.Each.{Each, each_at, each_from, each_all}
-use Rattle.sk_plain.proofs.Parameters.{scalar_is, scalar_kinds, kinds-length, params_names}
+use Rattle.sk_plain.proofs.Parameters.{kinds_all, kinds-length, params_names}
 use Rattle.sk_plain.proofs.Bindings.{names_of}
 use Rattle.sk_scheme_sound.proofs.SoundPieces.{Choices, Chosen, Exits, Fits, FineAt}
 use Rattle.sk_scheme_sound.proofs.SoundScopes.{AreCallees, IsCallee, HasSlot, InScope, IsGrown, grown_none}
@@ -27,21 +27,18 @@ use Rattle.sk_scheme_sound.proofs.SoundStatements.{IsStatement}
 use Rattle.sk_scheme_sound.proofs.SoundBodies.{statements_sound}
 
 -- the parameters in scope have their slots
-params_scoped : (params : List Param) (number : ℕ) (before : List ParamKind) (scope : List (List ℕ × Slot)) → length before ≡ number → list_all (λ param. is_scalar param.kind) params ≡ true
-    → InScope (before ++ kinds_of params) scope → InScope (before ++ kinds_of params) (parameters_from number params scope)
-params_scoped [] number before scope n e h = h
-params_scoped (param ∷ params) number before scope n e h =
+params_scoped : (params : List Param) (number : ℕ) (before : List ParamKind) (scope : List (List ℕ × Slot)) → length before ≡ number
+    → InScope (before ++ kinds_of params) (before ++ kinds_of params) scope → InScope (before ++ kinds_of params) (before ++ kinds_of params) (parameters_from number params scope)
+params_scoped [] number before scope n h = h
+params_scoped (param ∷ params) number before scope n h =
     let one : List ParamKind = before ++ param.kind ∷ [] in
     let same : one ++ kinds_of params ≡ before ++ param.kind ∷ kinds_of params = append_assoc before (param.kind ∷ []) (kinds_of params) in
     let slot : Slot = record { number = number; kind = param.kind } in
-    let s = scalar_is param.kind (and_left (is_scalar param.kind) (list_all (λ param. is_scalar param.kind) params) e) in
-    let there : slice_get (before ++ param.kind ∷ kinds_of params) number ≡ Some (Scalar s.0) =
-    slice_get-at before param.kind (kinds_of params) number n ∙ ap Some s.1 in
-    let has : HasSlot (before ++ param.kind ∷ kinds_of params) slot = record { ty = s.0; kind = s.1; there = there } in
-    subst (λ (l : List ParamKind). InScope l (parameters_from (suc number) params ((param.name, slot) ∷ scope))) same
+    let there : slice_get (before ++ param.kind ∷ kinds_of params) number ≡ Some param.kind = slice_get-at before param.kind (kinds_of params) number n in
+    let has : HasSlot (before ++ param.kind ∷ kinds_of params) (before ++ param.kind ∷ kinds_of params) slot = record { there = there; param = λ other. there } in
+    subst (λ (l : List ParamKind). InScope l l (parameters_from (suc number) params ((param.name, slot) ∷ scope))) same
     (params_scoped params (suc number) one ((param.name, slot) ∷ scope) (omega (arith, length-append before (param.kind ∷ []), n))
-    (and_right (is_scalar param.kind) (list_all (λ param. is_scalar param.kind) params) e)
-    (subst (λ (l : List ParamKind). InScope l ((param.name, slot) ∷ scope)) (sym same) (has, h)))
+    (subst (λ (l : List ParamKind). InScope l l ((param.name, slot) ∷ scope)) (sym same) (has, h)))
 
 abbrev flat : Option (Option (List Ty)) → Option (List Ty)
 flat (Some types) = types
@@ -94,20 +91,12 @@ are_slots [] (Proxy dimension ty ∷ more) e = let no : ⊥ = cc in absurd no
 are_slots [] (Region dimension ty ∷ more) e = let no : ⊥ = cc in absurd no
 are_slots (param ∷ params) more e = (refl, are_slots params more e)
 
--- a scalar is a kind of parameter
-scalars_are_kinds : (kinds : List ParamKind) → list_all is_scalar kinds ≡ true → list_all is_kind kinds ≡ true
-scalars_are_kinds [] e = refl
-scalars_are_kinds (Scalar ty ∷ kinds) e = scalars_are_kinds kinds e
-scalars_are_kinds (Index dimension ∷ kinds) e = let no : ⊥ = cc in absurd no
-scalars_are_kinds (Proxy dimension ty ∷ kinds) e = let no : ⊥ = cc in absurd no
-scalars_are_kinds (Region dimension ty ∷ kinds) e = let no : ⊥ = cc in absurd no
-
--- a function's code is sound, and its slots are all scalars
+-- a function's code is sound, and its slots are all scalars where its parameters are
 pub record IsSoundFunction (signatures : List Signature) (number : ℕ) (own : Signature) (code : Code) : Type 0 where
   pub sound : IsSoundCode signatures number own code
-  pub scalars : list_all is_scalar own.slots ≡ true
+  pub scalars : list_all is_scalar own.params ≡ true → list_all is_scalar own.slots ≡ true
 
-module _ (signatures : List Signature) (number : ℕ) (counts : Counts) (known : List (List ℕ × Known)) (function : Function) (callees : AreCallees signatures number counts known) (plain : IsPlainFunction counts function) where
+module _ (signatures : List Signature) (number : ℕ) (parameters : Parameters) (known : List (List ℕ × Known)) (function : Function) (callees : AreCallees signatures number parameters known) (plain : IsPlainFunction parameters function) where
   abbrev emitted : Emitted
   emitted = body_emitted known function
 
@@ -120,23 +109,23 @@ module _ (signatures : List Signature) (number : ℕ) (counts : Counts) (known :
   abbrev within : Within
   within = record { functions = known; ret = function.ret }
 
-  body : IsStatement named emitted.depth counts within callees refl (all_emitted (map emitting_of function.body))
+  body : IsStatement named emitted.depth parameters within callees refl (all_emitted (map emitting_of function.body))
       (record { behind = all_behind (map plainness_of function.body); assigns = false; declares = false }) (list_any returns_of function.body)
-  body = statements_sound named emitted.depth counts within callees refl function.body
+  body = statements_sound named emitted.depth parameters within callees refl function.body
 
   grown : IsGrown (kinds_of function.params) emitted.slots
   grown = body.grown begins
 
-  scoped : InScope (kinds_of function.params) (parameters_from 0 function.params [])
-  scoped = params_scoped function.params 0 [] [] refl plain.scalars tt
+  scoped : InScope (kinds_of function.params) (kinds_of function.params) (parameters_from 0 function.params [])
+  scoped = params_scoped function.params 0 [] [] refl tt
 
   part : Part named emitted.depth 0 emitted.code (0 + length emitted.code) None
   part =
-      let names : ScalarNames = reverse (map (λ (p : Param). p.name) function.params) in
-      let after = is_some_is (all_behind (map plainness_of function.body) counts names) plain.body in
+      let names : NamedKinds = reverse (map (λ (p : Param). (p.name, p.kind)) function.params) in
+      let after = is_some_is (all_behind (map plainness_of function.body) parameters names) plain.body in
       let same : names ≡ names_of begins.scope = params_names function.params 0 [] in
-      let plain_here : all_behind (map plainness_of function.body) counts (names_of begins.scope) ≡ Some after.0 =
-      subst (λ (l : ScalarNames). all_behind (map plainness_of function.body) counts l ≡ Some after.0) same after.1 in
+      let plain_here : all_behind (map plainness_of function.body) parameters (names_of begins.scope) ≡ Some after.0 =
+      subst (λ (l : NamedKinds). all_behind (map plainness_of function.body) parameters l ≡ Some after.0) same after.1 in
       subst (λ (b : Bool). Part named emitted.depth 0 emitted.code (0 + length emitted.code) (exit_of b)) plain.returns
       (body.part begins after.0 plain_here scoped (grown_none emitted.slots) (omega arith))
 
@@ -147,22 +136,21 @@ module _ (signatures : List Signature) (number : ℕ) (counts : Counts) (known :
       names = each_all (names_what_is_there named) 0 emitted.code part.names;
       loops = loops_take_turns emitted.code (0 + length emitted.code) part.jumps;
       slots = subst (λ (l : List ParamKind). AreSlots (kinds_of function.params) l) (sym grown.is) (are_slots (kinds_of function.params) grown.more grown.scalars);
-      kinds = scalars_are_kinds (kinds_of function.params) (scalar_kinds function.params plain.scalars);
+      kinds = kinds_all is_kind function.params plain.kinds;
       count = refl;
       params = omega (arith, kinds-length function.params, plain.few);
     };
-    scalars = ap (list_all is_scalar) grown.is ∙ all_append is_scalar (kinds_of function.params) grown.more (scalar_kinds function.params plain.scalars) grown.scalars;
+    scalars = λ given. ap (list_all is_scalar) grown.is ∙ all_append is_scalar (kinds_of function.params) grown.more given grown.scalars;
   }
 
 -- functions below a number are also below the next
-callees_wider : (signatures : List Signature) (number : ℕ) (counts : Counts) (known : List (List ℕ × Known)) → AreCallees signatures number counts known → AreCallees signatures (suc number) counts known
+callees_wider : (signatures : List Signature) (number : ℕ) (parameters : Parameters) (known : List (List ℕ × Known)) → AreCallees signatures number parameters known → AreCallees signatures (suc number) parameters known
 callees_wider signatures number [] [] h = tt
 callees_wider signatures number (c ∷ cs) (k ∷ ks) h =
     let one = h.1 in (
       h.0,
       record {
-        count_is = one.count_is;
-        scalars = one.scalars;
+        kinds_are = one.kinds_are;
         below = omega (arith, one.below);
         signature = one.signature;
         there = one.there;
@@ -171,38 +159,37 @@ callees_wider signatures number (c ∷ cs) (k ∷ ks) h =
       },
       callees_wider signatures number cs ks h.2,
     )
-callees_wider signatures number counts known h = absurd h
+callees_wider signatures number parameters known h = absurd h
 
 -- the functions of a list have these signatures among all, from a number on
 abbrev pub StandAt : List Signature → ℕ → List Signature → Type 0
 StandAt signatures number some = (k : ℕ) (own : Signature) → slice_get some k ≡ Some own → slice_get signatures (number + k) ≡ Some own
 
-pub functions_sound : (signatures : List Signature) (number : ℕ) (counts : Counts) (known : List (List ℕ × Known)) (functions : List Function) → AreCallees signatures number counts known
-    → ArePlain counts functions → StandAt signatures number (signatures_after number known functions) → (k : ℕ) (own : Signature) → slice_get (signatures_after number known functions) k ≡ Some own
+pub functions_sound : (signatures : List Signature) (number : ℕ) (parameters : Parameters) (known : List (List ℕ × Known)) (functions : List Function) → AreCallees signatures number parameters known
+    → ArePlain parameters functions → StandAt signatures number (signatures_after number known functions) → (k : ℕ) (own : Signature) → slice_get (signatures_after number known functions) k ≡ Some own
     → (code : Code) × (slice_get (codes_after number known functions) k ≡ Some code) × IsSoundFunction signatures (number + k) own code
-functions_sound signatures number counts known [] callees plain stand k own e = let no : ⊥ = cc in absurd no
-functions_sound signatures number counts known (function ∷ functions) callees plain stand zero own e =
+functions_sound signatures number parameters known [] callees plain stand k own e = let no : ⊥ = cc in absurd no
+functions_sound signatures number parameters known (function ∷ functions) callees plain stand zero own e =
     let same : signature_of known function ≡ own = cc in
     let here : number ≡ number + 0 = omega arith in (
       code_of known function,
       refl,
       subst (λ (s : Signature). IsSoundFunction signatures (number + 0) s (code_of known function)) same
           (subst (λ n. IsSoundFunction signatures n (signature_of known function) (code_of known function)) here
-          (function_sound signatures number counts known function callees plain.0)),
+          (function_sound signatures number parameters known function callees plain.0)),
     )
-functions_sound signatures number counts known (function ∷ functions) callees plain stand (suc k) own e =
+functions_sound signatures number parameters known (function ∷ functions) callees plain stand (suc k) own e =
     let here : number + 0 ≡ number = omega arith in
     let there : suc number + k ≡ number + suc k = omega arith in
-    let callee : IsCallee signatures (suc number) (length function.params) (known_of number function) = record {
-      count_is = kinds-length function.params;
-      scalars = scalar_kinds function.params plain.0.scalars;
+    let callee : IsCallee signatures (suc number) (kinds_of function.params) (known_of number function) = record {
+      kinds_are = refl;
       below = omega arith;
       signature = signature_of known function;
       there = subst (λ n. slice_get signatures n ≡ Some (signature_of known function)) here (stand 0 (signature_of known function) refl);
       params = refl;
       ret = refl;
     } in
-    let r = functions_sound signatures (suc number) ((function.name, length function.params) ∷ counts) ((function.name, known_of number function) ∷ known) functions
-    (refl, callee, callees_wider signatures number counts known callees) plain.1
+    let r = functions_sound signatures (suc number) ((function.name, kinds_of function.params) ∷ parameters) ((function.name, known_of number function) ∷ known) functions
+    (refl, callee, callees_wider signatures number parameters known callees) plain.1
     (λ k own e. let there : number + suc k ≡ suc number + k = omega arith in subst (λ n. slice_get signatures n ≡ Some own) there (stand (suc k) own e)) k own e in
     (r.0, r.1, subst (λ n. IsSoundFunction signatures n own r.0) there r.2)

@@ -3,6 +3,7 @@ use Rattle.std.proofs.Common.{◌≡◌, ℕ, suc, ◌+◌, ◌<◌, ◌≤◌, 
 use Rattle.std.specs.Prelude.{true, false, Bool, ◌&&◌, ◌||◌}
 use Rattle.sk_base.specs.declared.number.Ty.{Ty}
 use Rattle.sk_meaning.specs.Evaluation.{kind_type}
+use Rattle.sk_tree.specs.declared.tree.ParamKind.TheVariants.{Scalar}
 use Rattle.sk_scheme.specs.Scheme.{Slot}
 use Rattle.sk_isa.specs.Soundness.{Named, Types, left_by, left_if, names_what_is_there, serves, is_there}
 use Rattle.sk_isa.specs.declared.code.Instr.{Instr}
@@ -61,11 +62,11 @@ module _ (named : Named) (depth : ℕ) where
     jumps = forward_jumps at end end code f.fits.long (well_forward end at code f.well);
   }
 
-  pub store_part : (slot : Slot) (at mid : ℕ) (code : List Instr) → HasSlot named.own.slots slot → 1 ≤ depth → Piece named depth at code mid (Some []) (Some (kind_type slot.kind ∷ []))
+  pub store_part : (slot : Slot) (scalar : Ty) (at mid : ℕ) (code : List Instr) → slot.kind ≡ Scalar scalar → HasSlot named.own.params named.own.slots slot → 1 ≤ depth → Piece named depth at code mid (Some []) (Some (kind_type slot.kind ∷ []))
       → Part at (code ++ instr.Store slot.number ∷ []) (at + length (code ++ instr.Store slot.number ∷ [])) (Some [])
-  store_part slot at mid code has low f =
+  store_part slot scalar at mid code kind has low f =
       let ty : Ty = kind_type slot.kind in
-      let here = slot_type named depth slot has in
+      let here = slot_type named depth slot scalar kind has in
       let empty : List Ty = [] in
       let effect : left_by named (instr.Store slot.number) (ty ∷ []) ≡ Some empty =
       ap (λ (o : Option Ty). elim o as (λ x. Option (List Ty)) [ Some wanted ↦ left_if (serves ty wanted) empty | None ↦ None ]) here

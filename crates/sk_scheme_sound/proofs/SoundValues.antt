@@ -4,7 +4,7 @@ use Rattle.std.proofs.lemmas.List.{length-map, length-reverse, reverse-reverse}
 use Rattle.std.proofs.Math.Seq.{take-append_seam, drop-append_seam}
 use Rattle.std.proofs.lemmas.Bool.{and_from, le-leb, leb-true, lt-ltb}
 use Rattle.std.proofs.lemmas.Bool.Decides.{nat_tests}
-use Rattle.std.specs.Prelude.{true, Bool, ◌&&◌, ◌||◌, if◌then◌else◌, nat_lt, nat_le}
+use Rattle.std.specs.Prelude.{true, false, Bool, ◌&&◌, ◌||◌, ◌==◌, if◌then◌else◌, nat_lt, nat_le}
 use Rattle.std.specs.List.{list_all}
 use Rattle.std.specs.Cmp.Lexicographic.{pointwise}
 use Rattle.sk_base.specs.declared.number.Op.{Op}
@@ -14,13 +14,14 @@ use Rattle.sk_base.specs.declared.number.Ty.TheVariants.{Int, Long}
 use Rattle.sk_base.specs.Arithmetic.{is_shift}
 use Rattle.sk_meaning.specs.Evaluation.{kind_type}
 use Rattle.sk_meaning.specs.Expressions.{wider, operation_type, result_type, prefix_type}
+use Rattle.sk_tree.specs.Parameters.{is_field}
 use Rattle.sk_tree.specs.declared.tree.ParamKind.{ParamKind}
 use Rattle.sk_tree.specs.declared.tree.ParamKind.TheVariants.{Scalar, Index, Proxy, Region}
 use Rattle.sk_tree.specs.declared.tree.Un.{Un}
 use Rattle.sk_tree.specs.declared.tree.Un.TheVariants as prefix
 use Rattle.sk_scheme.specs.Pieces.{Placed, narrowed, prefix_code, both_code, either_code, choice_code}
 use Rattle.sk_scheme.specs.Scheme.{Slot, Known}
-use Rattle.sk_isa.specs.Soundness.{Named, Left, left_by, left_by_call, left_if, left_with, leads_to, names_what_is_there, of_many, scalar_in, serve_for, serves, is_number, number_type, is_scalar, is_there, takes_scalars}
+use Rattle.sk_isa.specs.Soundness.{Named, Left, has_field, item_type, region_type, left_by, left_by_call, left_if, left_with, leads_to, names_what_is_there, of_many, scalar_in, serve_for, serves, is_number, number_type, is_scalar, is_there, takes_scalars}
 use Rattle.sk_isa.specs.declared.code.Instr.{Instr}
 use Rattle.sk_isa.specs.declared.code.Instr.TheVariants as instr
 use Rattle.sk_isa.specs.declared.object.Signature.{Signature}
@@ -164,21 +165,74 @@ module _ (named : Named) (depth : ℕ) where
       (wider_top at (suc at) (instr.Push number ∷ []) (Some types) (number_type number) ty types (number_serves ty number fits)
       (one_piece (instr.Push number) at types (number_type number ∷ types) effect low refl refl tt))
 
-  -- the type of a slot that is there
-  pub slot_type : (slot : Slot) (h : HasSlot named.own.slots slot) → scalar_in named slot.number ≡ Some (kind_type slot.kind)
-  slot_type slot h =
+  -- the type of a scalar's slot that is there
+  pub slot_type : (slot : Slot) (ty : Ty) → slot.kind ≡ Scalar ty → HasSlot named.own.params named.own.slots slot → scalar_in named slot.number ≡ Some (kind_type slot.kind)
+  slot_type slot ty kind h =
       ap (λ (o : Option ParamKind). elim o as (λ x. Option Ty) [
         | Some kind ↦ elim kind as (λ x. Option Ty) [ Scalar ty ↦ Some ty | Index dimension ↦ None | Proxy dimension ty ↦ None | Region dimension ty ↦ None ]
         | None ↦ None
-      ]) h.there
-      ∙ ap (λ (k : ParamKind). Some (kind_type k)) (sym h.kind)
+      ]) (h.there ∙ ap (λ (k : ParamKind). Some k) kind)
+      ∙ ap (λ (k : ParamKind). Some (kind_type k)) (sym kind)
 
-  pub load_piece : (slot : Slot) (at : ℕ) (types : List Ty) → HasSlot named.own.slots slot → length types ≤ depth
+  pub load_piece : (slot : Slot) (ty : Ty) (at : ℕ) (types : List Ty) → slot.kind ≡ Scalar ty → HasSlot named.own.params named.own.slots slot → length types ≤ depth
       → Piece at (instr.Load slot.number ∷ []) (at + 1) (Some types) (Some (kind_type slot.kind ∷ types))
-  load_piece slot at types h low =
-      let here = slot_type slot h in
+  load_piece slot ty at types kind h low =
+      let here = slot_type slot ty kind h in
       piece_end at (suc at) (instr.Load slot.number ∷ []) (Some types) (Some (kind_type slot.kind ∷ types))
       (one_piece (instr.Load slot.number) at types (kind_type slot.kind ∷ types) (ap (λ (o : Option Ty). left_with o types) here) low refl (ap is_there here) tt)
+
+  -- a field of a parameter
+  pub field_piece : (slot : Slot) (field : List ℕ) (at : ℕ) (types : List Ty) → is_field slot.kind field ≡ true → slice_get named.own.params slot.number ≡ Some slot.kind → length types ≤ depth
+      → Piece at (instr.Field slot.number field ∷ []) (at + 1) (Some types) (Some (Int ∷ types))
+  field_piece slot field at types has there low =
+      let here : has_field named slot.number field ≡ true =
+      ap (λ (o : Option ParamKind). elim o as (λ x. Bool) [ Some kind ↦ is_field kind field | None ↦ false ]) there ∙ has in
+      piece_end at (suc at) (instr.Field slot.number field ∷ []) (Some types) (Some (Int ∷ types))
+      (one_piece (instr.Field slot.number field) at types (Int ∷ types) (ap (λ (b : Bool). left_if b (Int ∷ types)) here) low refl here tt)
+
+  -- an element of a proxy, where its place is on the stack
+  pub item_piece : (number dimension places : ℕ) (ty : Ty) (at mid : ℕ) (code : List Instr) (entry : Option (List Ty)) (given types : List Ty)
+      → slice_get named.own.params number ≡ Some (Proxy dimension ty) → (dimension == places) ≡ true → length given ≡ places → length types + places ≤ depth
+      → Piece at code mid entry (Some (reverse given ++ types))
+      → Piece at (code ++ instr.Item number places ∷ []) (at + length (code ++ instr.Item number places ∷ [])) entry (Some (ty ∷ types))
+  item_piece number dimension places ty at mid code entry given types there same many low f =
+      let here : item_type named number places ≡ Some ty =
+      ap (λ (o : Option ParamKind). elim o as (λ x. Option Ty) [
+        | Some kind ↦ elim kind as (λ x. Option Ty) [
+          | Scalar ty ↦ None
+          | Index dimension ↦ None
+          | Proxy dimension ty ↦ if dimension == places then Some ty else None
+          | Region dimension ty ↦ None
+        ]
+        | None ↦ None
+      ]) there
+      ∙ ap (λ (b : Bool). if b then Some ty else None) same in
+      let effect : left_by named (instr.Item number places) (reverse given ++ types) ≡ Some (ty ∷ types) =
+      many_taken given types places (λ taken rest. left_with (item_type named number places) rest) (sym many) ∙ ap (λ (o : Option Ty). left_with o types) here in
+      then_one at mid code (instr.Item number places) entry (reverse given ++ types) (ty ∷ types) f effect
+      (omega (arith, length-append (reverse given) types, length-reverse given, many, low)) refl (ap is_there here) tt
+
+  -- an element of a region, where its distances are on the stack
+  pub region_piece : (number dimension places : ℕ) (ty : Ty) (at mid : ℕ) (code : List Instr) (entry : Option (List Ty)) (given types : List Ty)
+      → slice_get named.own.params number ≡ Some (Region dimension ty) → (dimension == places) ≡ true → length given ≡ places → length types + places ≤ depth
+      → Piece at code mid entry (Some (reverse given ++ types))
+      → Piece at (code ++ instr.Region number places ∷ []) (at + length (code ++ instr.Region number places ∷ [])) entry (Some (ty ∷ types))
+  region_piece number dimension places ty at mid code entry given types there same many low f =
+      let here : region_type named number places ≡ Some ty =
+      ap (λ (o : Option ParamKind). elim o as (λ x. Option Ty) [
+        | Some kind ↦ elim kind as (λ x. Option Ty) [
+          | Scalar ty ↦ None
+          | Index dimension ↦ None
+          | Proxy dimension ty ↦ None
+          | Region dimension ty ↦ if dimension == places then Some ty else None
+        ]
+        | None ↦ None
+      ]) there
+      ∙ ap (λ (b : Bool). if b then Some ty else None) same in
+      let effect : left_by named (instr.Region number places) (reverse given ++ types) ≡ Some (ty ∷ types) =
+      many_taken given types places (λ taken rest. left_with (region_type named number places) rest) (sym many) ∙ ap (λ (o : Option Ty). left_with o types) here in
+      then_one at mid code (instr.Region number places) entry (reverse given ++ types) (ty ∷ types) f effect
+      (omega (arith, length-append (reverse given) types, length-reverse given, many, low)) refl (ap is_there here) tt
 
   pub prefix_piece : (op : Un) (ty : Ty) (at mid : ℕ) (code : List Instr) (entry : Option (List Ty)) (types : List Ty) → suc (length types) ≤ depth
       → Piece at code mid entry (Some (ty ∷ types)) → Piece at (code ++ prefix_code op ty ∷ []) (at + length (code ++ prefix_code op ty ∷ [])) entry (Some (prefix_type op ty ∷ types))
@@ -213,15 +267,15 @@ module _ (named : Named) (depth : ℕ) where
       (ap (λ (b : Bool). left_if b (result_type op ty ty ∷ types)) (operands_serve op left right) ∙ ap (λ (t : Ty). Some (t ∷ types)) (result_same op left right)) low refl refl tt
 
   -- a call, where its arguments are on the stack
-  pub call_piece : (count : ℕ) (known : Known) (callee : IsCallee named.signatures named.function count known) (at mid : ℕ) (code : List Instr) (entry : Option (List Ty)) (types : List Ty)
-      → length types + count ≤ depth → Piece at code mid entry (Some (pushed known.kinds types))
+  pub call_piece : (kinds : List ParamKind) (known : Known) (callee : IsCallee named.signatures named.function kinds known) (at mid : ℕ) (code : List Instr) (entry : Option (List Ty)) (types : List Ty)
+      → list_all is_scalar known.kinds ≡ true → length types + length known.kinds ≤ depth → Piece at code mid entry (Some (pushed known.kinds types))
       → Piece at (code ++ instr.Call known.number ∷ []) (at + length (code ++ instr.Call known.number ∷ [])) entry (Some (known.ret ∷ types))
-  call_piece count known callee at mid code entry types low f =
+  call_piece kinds known callee at mid code entry types all_scalars low f =
       let fs : List Ty = map kind_type known.kinds in
       let signature : Signature = callee.signature in
       let below = lt-ltb known.number named.function callee.below in
       let n : length signature.params ≡ length fs = ap length callee.params ∙ sym (length-map known.kinds kind_type) in
-      let serve : serve_for fs signature.params ≡ true = ap (serve_for fs) callee.params ∙ kinds_serve known.kinds callee.scalars in
+      let serve : serve_for fs signature.params ≡ true = ap (serve_for fs) callee.params ∙ kinds_serve known.kinds all_scalars in
       let effect : left_by named (instr.Call known.number) (pushed known.kinds types) ≡ Some (known.ret ∷ types) =
       ap (λ (b : Bool). if b then left_by_call (slice_get named.signatures known.number) (pushed known.kinds types) else None) below
       ∙ ap (λ (o : Option Signature). left_by_call o (pushed known.kinds types)) callee.there
@@ -229,11 +283,11 @@ module _ (named : Named) (depth : ℕ) where
       ∙ ap (λ (b : Bool). left_if b (signature.ret ∷ types)) serve
       ∙ ap (λ (t : Ty). Some (t ∷ types)) callee.ret in
       let scalars : takes_scalars (slice_get named.signatures known.number) ≡ true =
-      ap takes_scalars callee.there ∙ ap (list_all is_scalar) callee.params ∙ callee.scalars in
+      ap takes_scalars callee.there ∙ ap (list_all is_scalar) callee.params ∙ all_scalars in
       let names : names_what_is_there named (instr.Call known.number) ≡ true =
       and_from (nat_lt known.number named.function) (takes_scalars (slice_get named.signatures known.number)) below scalars in
       let height : length (pushed known.kinds types) ≤ depth =
-      omega (arith, length-append (reverse fs) types, length-reverse fs, length-map known.kinds kind_type, callee.count_is, low) in
+      omega (arith, length-append (reverse fs) types, length-reverse fs, length-map known.kinds kind_type, low) in
       then_one at mid code (instr.Call known.number) entry (pushed known.kinds types) (known.ret ∷ types) f effect height refl names tt
 
   pub both_piece : (left right : Placed) (one_ty other_ty : Ty) (at : ℕ) (types : List Ty) → suc (length types) ≤ depth

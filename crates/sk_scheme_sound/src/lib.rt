@@ -5,4 +5,4 @@
 
 mod laws;
 
-pub use laws::plain_programs_are_sound;
+pub use laws::{plain_functions_are_sound, plain_programs_are_sound};

@@ -1,13 +1,13 @@
--- An expression of a function that takes scalars is plain, where no fault is told of it and its numbers fit their types.
+-- An expression of a function is plain, where no fault is told of it and its numbers fit their types.
 use Rattle.std.proofs.Common.{◌≡◌, ℕ, zero, suc, Bool, true, false, ◌&&◌, ◌==◌, List, [], ◌∷◌, ◌++◌, length, map, Option, Some, None, if◌then◌else◌, refl, sym, ap, ◌∙◌, subst, arith}
+use Rattle.std.proofs.lemmas.List.{length-map}
 use Rattle.std.proofs.lemmas.Bool.{and_from, eqb-true, eq-eqb}
-use Rattle.std.specs.Prelude.{not, nat_lt, slice_get}
+use Rattle.std.specs.Prelude.{nat_lt, slice_get}
 use Rattle.std.specs.List.{list_all}
-use Rattle.sk_base.specs.declared.number.Ty.{Ty}
 use Rattle.sk_names.specs.Bindings.{bound_to}
 use Rattle.sk_plain.proofs.Parts.{exprs_of}
 use Rattle.sk_plain.proofs.Truths.{and_left, and_right}
-use Rattle.sk_plain.specs.Plain.{Counts, ScalarNames, is_among, takes, is_plain_expression, plain_expression_step}
+use Rattle.sk_plain.specs.Plain.{Parameters, NamedKinds, has_places, is_applied, is_some_and, takes, is_plain_expression, plain_expression_step}
 use Rattle.sk_tree.specs.Functions.{kinds_of}
 use Rattle.sk_tree.specs.Parameters.{is_scalar, is_field, is_method}
 use Rattle.sk_tree.specs.declared.tree.Expr.{Expr, Expr-F, roll-Expr, map-Expr, fold-roll-Expr, ind-Expr}
@@ -16,39 +16,36 @@ use Rattle.sk_tree.specs.declared.tree.Function.{Function}
 use Rattle.sk_tree.specs.declared.tree.ParamKind.{ParamKind}
 use Rattle.sk_tree.specs.declared.tree.ParamKind.TheVariants.{Scalar, Index, Proxy, Region}
 use Rattle.sk_typed_laws.proofs.Meant.{IsMeant, Agree}
-use Rattle.sk_typed_laws.proofs.Untold.{no_faults, past}
+use Rattle.sk_typed_laws.proofs.Untold.{no_faults, past, unless_kept}
 use Rattle.sk_typed_laws.specs.Forms.{is_sized, sized_step}
 use Rattle.sk_typing.specs.TypingExpressions.{Judged, Judging, judged_of, judging_step, all_judged, all_part_faults, applied_faults, applied_use, function_use, use_faults, each_argument_faults, first_dimension}
-use Rattle.sk_typing.specs.TypingNames.{Knowns, Around, fault, unless, scalar_faults, variable_faults, numbers}
+use Rattle.sk_typing.specs.TypingNames.{Knowns, Around, fault, scalar_faults, variable_faults, numbers}
 use Rattle.sk_typing.specs.declared.names.Known.{Known}
 use Rattle.sk_typing.specs.declared.names.Known.TheVariants.{Variable, Function as FunctionName, Instance as InstanceName, Broken}
 use Rattle.sk_typing.specs.declared.names.FaultKind.TheVariants.{Mismatch, Arity}
 use Rattle.sk_typing.specs.declared.names.Use.TheVariants.{Takes, Wrong}
 
 -- a name without a fault is a scalar
-pub scalar_among : (around : Around) (among : Bool) (count : Option ℕ) (known : Option Known) → IsMeant around.functions around.number among count known
-    → scalar_faults around known ≡ [] → among ≡ true
-scalar_among around among count None h e = let no : ⊥ = cc in absurd no
-scalar_among around among count (Some (Variable (Scalar ty))) h e = h
-scalar_among around among count (Some (Variable (Index dimension))) h e = absurd h
-scalar_among around among count (Some (Variable (Proxy dimension ty))) h e = absurd h
-scalar_among around among count (Some (Variable (Region dimension ty))) h e = absurd h
-scalar_among around among count (Some (FunctionName number)) h e = let no : ⊥ = cc in absurd no
-scalar_among around among count (Some (InstanceName made)) h e = absurd h
-scalar_among around among count (Some Broken) h e = absurd h
+pub scalar_meant : (around : Around) (kind : Option ParamKind) (kinds : Option (List ParamKind)) (known : Option Known) → IsMeant around.functions around.number kind kinds known
+    → scalar_faults around known ≡ [] → is_some_and is_scalar kind ≡ true
+scalar_meant around kind kinds None h e = let no : ⊥ = cc in absurd no
+scalar_meant around kind kinds (Some (Variable (Scalar ty))) h e = ap (λ (k : Option ParamKind). is_some_and is_scalar k) h
+scalar_meant around kind kinds (Some (Variable (Index dimension))) h e = let no : ⊥ = cc in absurd no
+scalar_meant around kind kinds (Some (Variable (Proxy dimension ty))) h e = let no : ⊥ = cc in absurd no
+scalar_meant around kind kinds (Some (Variable (Region dimension ty))) h e = let no : ⊥ = cc in absurd no
+scalar_meant around kind kinds (Some (FunctionName number)) h e = let no : ⊥ = cc in absurd no
+scalar_meant around kind kinds (Some (InstanceName made)) h e = absurd h
+scalar_meant around kind kinds (Some Broken) h e = absurd h
 
--- a scalar has neither fields nor methods
-pub never_a_part : (around : Around) (among : Bool) (count : Option ℕ) (known : Option Known) (test : ParamKind → Bool)
-    → IsMeant around.functions around.number among count known → ((ty : Ty) → test (Scalar ty) ≡ false) → variable_faults around known test ≡ [] → ⊥
-never_a_part around among count None test h t e = cc
-never_a_part around among count (Some (Variable (Scalar ty))) test h t e =
-    let some : fault around Mismatch ≡ [] = sym (ap (λ b. unless b around Mismatch) (t ty)) ∙ e in cc
-never_a_part around among count (Some (Variable (Index dimension))) test h t e = h
-never_a_part around among count (Some (Variable (Proxy dimension ty))) test h t e = h
-never_a_part around among count (Some (Variable (Region dimension ty))) test h t e = h
-never_a_part around among count (Some (FunctionName number)) test h t e = cc
-never_a_part around among count (Some (InstanceName made)) test h t e = h
-never_a_part around among count (Some Broken) test h t e = h
+-- a variable that passes a test is in scope with its kind
+pub tested_meant : (around : Around) (kind : Option ParamKind) (kinds : Option (List ParamKind)) (known : Option Known) (test : ParamKind → Bool)
+    → IsMeant around.functions around.number kind kinds known → variable_faults around known test ≡ [] → is_some_and test kind ≡ true
+tested_meant around kind kinds None test h e = let no : ⊥ = cc in absurd no
+tested_meant around kind kinds (Some (Variable given)) test h e =
+    ap (λ (k : Option ParamKind). is_some_and test k) h ∙ unless_kept (test given) around Mismatch e
+tested_meant around kind kinds (Some (FunctionName number)) test h e = let no : ⊥ = cc in absurd no
+tested_meant around kind kinds (Some (InstanceName made)) test h e = absurd h
+tested_meant around kind kinds (Some Broken) test h e = absurd h
 
 -- nothing is at fault in these
 abbrev pub AreFine : List Judged → Type 0
@@ -82,98 +79,113 @@ numbers_taken around count arguments e = by_test (length arguments == length (nu
         record { size = n; fine = each_fine around count arguments n e }
     by_test false is e = let no : ⊥ = cc in absurd no
 
--- a call of a function before this one
-pub record IsCalled (among : Bool) (count : Option ℕ) (arguments : List Judged) : Type 0 where
-  pub other : among ≡ false
-  pub takes_so : takes count (length arguments) ≡ true
+-- an element of a container, or a call of a function before this one
+pub record IsApplied (kind : Option ParamKind) (kinds : Option (List ParamKind)) (arguments : List Judged) : Type 0 where
+  pub is : is_applied kind kinds (length arguments) ≡ true
   pub fine : AreFine arguments
 
-module _ (around : Around) (among : Bool) (count : Option ℕ) (arguments : List Judged) where
-  function_called : (function : Function) → among ≡ false → count ≡ Some (length function.params) → use_faults around (function_use (Some function)) arguments ≡ []
-      → IsCalled among count arguments
-  function_called function other is e = by_test (list_all is_scalar (kinds_of function)) e
+module _ (around : Around) (kind : Option ParamKind) (kinds : Option (List ParamKind)) (arguments : List Judged) where
+  function_called : (function : Function) → kind ≡ None → kinds ≡ Some (kinds_of function) → use_faults around (function_use (Some function)) arguments ≡ []
+      → IsApplied kind kinds arguments
+  function_called function other is e = by_test (list_all is_scalar (kinds_of function)) refl e
     where
-      by_test : (b : Bool) → use_faults around (if b then Takes (numbers (length function.params)) else Wrong Mismatch) arguments ≡ [] → IsCalled among count arguments
-      by_test true e =
+      by_test : (b : Bool) → list_all is_scalar (kinds_of function) ≡ b → use_faults around (if b then Takes (numbers (length function.params)) else Wrong Mismatch) arguments ≡ [] → IsApplied kind kinds arguments
+      by_test true scalars e =
           let taken = numbers_taken around (length function.params) arguments e in
+          let many : length (kinds_of function) ≡ length arguments = length-map function.params (λ param. param.kind) ∙ sym taken.size in
+          let fits : (list_all is_scalar (kinds_of function) && length (kinds_of function) == length arguments) ≡ true =
+          and_from (list_all is_scalar (kinds_of function)) (length (kinds_of function) == length arguments) scalars (eq-eqb (length (kinds_of function)) (length arguments) many) in
           record {
-            other = other;
-            takes_so = ap (λ o. takes o (length arguments)) is ∙ eq-eqb (length function.params) (length arguments) (sym taken.size);
+            is = ap (λ (k : Option ParamKind). is_applied k kinds (length arguments)) other ∙ ap (λ (o : Option (List ParamKind)). takes o (length arguments)) is ∙ fits;
             fine = taken.fine;
           }
-      by_test false e = let no : ⊥ = cc in absurd no
+      by_test false scalars e = let no : ⊥ = cc in absurd no
 
-  number_called : (number : ℕ) → IsMeant around.functions around.number among count (Some (FunctionName number))
+  number_called : (number : ℕ) → IsMeant around.functions around.number kind kinds (Some (FunctionName number))
       → use_faults around (if nat_lt number around.number then function_use (slice_get around.functions number) else Wrong Mismatch) arguments ≡ []
-      → IsCalled among count arguments
+      → IsApplied kind kinds arguments
   number_called number h e = by_test (nat_lt number around.number) refl (slice_get around.functions number) refl e
     where
       by_test : (b : Bool) → nat_lt number around.number ≡ b → (found : Option Function) → slice_get around.functions number ≡ found
-          → use_faults around (if b then function_use found else Wrong Mismatch) arguments ≡ [] → IsCalled among count arguments
+          → use_faults around (if b then function_use found else Wrong Mismatch) arguments ≡ [] → IsApplied kind kinds arguments
       by_test true below (Some function) is e = function_called function h.0 (h.1 below function is) e
       by_test true below None is e = let no : ⊥ = cc in absurd no
       by_test false below found is e = let no : ⊥ = cc in absurd no
 
-  pub applied_called : (known : Option Known) → IsMeant around.functions around.number among count known → applied_faults around known arguments ≡ []
-      → IsCalled among count arguments
+  -- an element, whose coordinates or distances are values
+  element_taken : (container : ParamKind) (dimension : ℕ) → ((given : ℕ) → has_places container given ≡ (dimension == given)) → kind ≡ Some container
+      → use_faults around (Takes (numbers dimension)) arguments ≡ [] → IsApplied kind kinds arguments
+  element_taken container dimension places h e =
+      let taken = numbers_taken around dimension arguments e in
+      record {
+        is = ap (λ (k : Option ParamKind). is_applied k kinds (length arguments)) h ∙ places (length arguments) ∙ eq-eqb dimension (length arguments) (sym taken.size);
+        fine = taken.fine;
+      }
+
+  used : (known : Known) → applied_faults around (Some known) arguments ≡ [] → use_faults around (applied_use around (length arguments) (first_dimension arguments) known) arguments ≡ []
+  used known e = past (all_part_faults around arguments) (use_faults around (applied_use around (length arguments) (first_dimension arguments) known) arguments) e
+
+  pub applied_called : (known : Option Known) → IsMeant around.functions around.number kind kinds known → applied_faults around known arguments ≡ []
+      → IsApplied kind kinds arguments
   applied_called None h e = let no : ⊥ = cc in absurd no
-  applied_called (Some (Variable (Scalar ty))) h e =
-      let used : use_faults around (Wrong Mismatch) arguments ≡ [] = past (all_part_faults around arguments) (use_faults around (Wrong Mismatch) arguments) e in
-      let no : ⊥ = cc in absurd no
-  applied_called (Some (Variable (Index dimension))) h e = absurd h
-  applied_called (Some (Variable (Proxy dimension ty))) h e = absurd h
-  applied_called (Some (Variable (Region dimension ty))) h e = absurd h
-  applied_called (Some (FunctionName number)) h e =
-      number_called number h
-      (past (all_part_faults around arguments) (use_faults around (applied_use around (length arguments) (first_dimension arguments) (FunctionName number)) arguments) e)
+  applied_called (Some (Variable (Scalar ty))) h e = let told : use_faults around (Wrong Mismatch) arguments ≡ [] = used (Variable (Scalar ty)) e in let no : ⊥ = cc in absurd no
+  applied_called (Some (Variable (Index dimension))) h e = let told : use_faults around (Wrong Mismatch) arguments ≡ [] = used (Variable (Index dimension)) e in let no : ⊥ = cc in absurd no
+  applied_called (Some (Variable (Proxy dimension ty))) h e = element_taken (Proxy dimension ty) dimension (λ given. refl) h (used (Variable (Proxy dimension ty)) e)
+  applied_called (Some (Variable (Region dimension ty))) h e = element_taken (Region dimension ty) dimension (λ given. refl) h (used (Variable (Region dimension ty)) e)
+  applied_called (Some (FunctionName number)) h e = number_called number h (used (FunctionName number) e)
   applied_called (Some (InstanceName made)) h e = absurd h
   applied_called (Some Broken) h e = absurd h
 
-module _ (counts : Counts) where
+module _ (parameters : Parameters) where
   -- an expression without a fault is plain
-  pub record IsClear (judging : Judging) (sized : Bool) (plain : Counts → ScalarNames → Bool) : Type 0 where
-    pub plain_is : (around : Around) (names : Knowns) (scalars : ScalarNames) → around.in_main ≡ false → Agree around.functions around.number counts names scalars
-        → sized ≡ true → (judging around names).faults ≡ [] → plain counts scalars ≡ true
+  pub record IsClear (judging : Judging) (sized : Bool) (plain : Parameters → NamedKinds → Bool) : Type 0 where
+    pub plain_is : (around : Around) (names : Knowns) (scalars : NamedKinds) → around.in_main ≡ false → Agree around.functions around.number parameters names scalars
+        → sized ≡ true → (judging around names).faults ≡ [] → plain parameters scalars ≡ true
 
   abbrev pub IsClearly : Expr → Type 0
   IsClearly e = IsClear (judged_of e) (is_sized e) (is_plain_expression e)
 
   name_clear : (name : List ℕ) → IsClear (judging_step (layer.Name name)) (sized_step (layer.Name name)) (plain_expression_step (layer.Name name))
   name_clear name = record {
-    plain_is = λ around names scalars m a s e. scalar_among around (is_among name scalars) (bound_to name counts) (bound_to name names) (a.meant name) e;
+    plain_is = λ around names scalars m a s e. scalar_meant around (bound_to name scalars) (bound_to name parameters) (bound_to name names) (a.meant name) e;
   }
 
   field_clear : (name field : List ℕ) → IsClear (judging_step (layer.Field name field)) (sized_step (layer.Field name field)) (plain_expression_step (layer.Field name field))
   field_clear name field = record {
     plain_is = λ around names scalars m a s e.
-        absurd (never_a_part around (is_among name scalars) (bound_to name counts) (bound_to name names) (λ kind. if around.in_main then false else is_field kind field) (a.meant name)
-        (λ ty. ap (λ b. if b then false else false) m) e);
+        subst (λ (b : Bool). is_some_and (λ kind. if b then false else is_field kind field) (bound_to name scalars) ≡ true) m
+        (tested_meant around (bound_to name scalars) (bound_to name parameters) (bound_to name names) (λ kind. if around.in_main then false else is_field kind field) (a.meant name) e);
   }
+
+  never_passed : (found : Option ParamKind) → is_some_and (λ kind. false) found ≡ true → ⊥
+  never_passed (Some kind) e = cc
+  never_passed None e = cc
 
   method_clear : (name method : List ℕ) → IsClear (judging_step (layer.Method name method)) (sized_step (layer.Method name method)) (plain_expression_step (layer.Method name method))
   method_clear name method = record {
     plain_is = λ around names scalars m a s e.
-        absurd (never_a_part around (is_among name scalars) (bound_to name counts) (bound_to name names) (λ kind. if around.in_main then is_method kind method else false) (a.meant name)
-        (λ ty. ap (λ b. if b then is_method (Scalar ty) method else false) m) e);
+        absurd (never_passed (bound_to name scalars)
+        (subst (λ (b : Bool). is_some_and (λ kind. if b then is_method kind method else false) (bound_to name scalars) ≡ true) m
+        (tested_meant around (bound_to name scalars) (bound_to name parameters) (bound_to name names) (λ kind. if around.in_main then is_method kind method else false) (a.meant name) e)));
   }
 
-  two_clear : (one other : Judging) (s t : Bool) (p q : Counts → ScalarNames → Bool) → IsClear one s p → IsClear other t q
-      → (around : Around) (names : Knowns) (scalars : ScalarNames) → around.in_main ≡ false → Agree around.functions around.number counts names scalars
-      → (s && t) ≡ true → (one around names).faults ++ (other around names).faults ≡ [] → (p counts scalars && q counts scalars) ≡ true
+  two_clear : (one other : Judging) (s t : Bool) (p q : Parameters → NamedKinds → Bool) → IsClear one s p → IsClear other t q
+      → (around : Around) (names : Knowns) (scalars : NamedKinds) → around.in_main ≡ false → Agree around.functions around.number parameters names scalars
+      → (s && t) ≡ true → (one around names).faults ++ (other around names).faults ≡ [] → (p parameters scalars && q parameters scalars) ≡ true
   two_clear one other s t p q f g around names scalars m a e told =
       let parts = no_faults (one around names).faults (other around names).faults told in
-      and_from (p counts scalars) (q counts scalars) (f.plain_is around names scalars m a (and_left s t e) parts.0) (g.plain_is around names scalars m a (and_right s t e) parts.1)
+      and_from (p parameters scalars) (q parameters scalars) (f.plain_is around names scalars m a (and_left s t e) parts.0) (g.plain_is around names scalars m a (and_right s t e) parts.1)
 
-  three_clear : (test one other : Judging) (r s t : Bool) (o p q : Counts → ScalarNames → Bool) → IsClear test r o → IsClear one s p → IsClear other t q
-      → (around : Around) (names : Knowns) (scalars : ScalarNames) → around.in_main ≡ false → Agree around.functions around.number counts names scalars
+  three_clear : (test one other : Judging) (r s t : Bool) (o p q : Parameters → NamedKinds → Bool) → IsClear test r o → IsClear one s p → IsClear other t q
+      → (around : Around) (names : Knowns) (scalars : NamedKinds) → around.in_main ≡ false → Agree around.functions around.number parameters names scalars
       → (r && s && t) ≡ true → (test around names).faults ++ (one around names).faults ++ (other around names).faults ≡ []
-      → (o counts scalars && p counts scalars && q counts scalars) ≡ true
+      → (o parameters scalars && p parameters scalars && q parameters scalars) ≡ true
   three_clear test one other r s t o p q f g h around names scalars m a e told =
       let parts = no_faults ((test around names).faults ++ (one around names).faults) (other around names).faults told in
       let more = no_faults (test around names).faults (one around names).faults parts.0 in
       let two = and_left (r && s) t e in
-      and_from (o counts scalars && p counts scalars) (q counts scalars)
-      (and_from (o counts scalars) (p counts scalars) (f.plain_is around names scalars m a (and_left r s two) more.0) (g.plain_is around names scalars m a (and_right r s two) more.1))
+      and_from (o parameters scalars && p parameters scalars) (q parameters scalars)
+      (and_from (o parameters scalars) (p parameters scalars) (f.plain_is around names scalars m a (and_left r s two) more.0) (g.plain_is around names scalars m a (and_right r s two) more.1))
       (h.plain_is around names scalars m a (and_right (r && s) t e) parts.1)
 
   abbrev Parts : Type 0
@@ -186,13 +198,13 @@ module _ (counts : Counts) where
   lengths around names [] = refl
   lengths around names (y ∷ ys) = ap suc (lengths around names ys)
 
-  parts_clear : (around : Around) (names : Knowns) (scalars : ScalarNames) → around.in_main ≡ false → Agree around.functions around.number counts names scalars → (ys : Parts)
+  parts_clear : (around : Around) (names : Knowns) (scalars : NamedKinds) → around.in_main ≡ false → Agree around.functions around.number parameters names scalars → (ys : Parts)
       → list_all (λ part. part) (map is_sized (exprs_of ys)) ≡ true → AreFine (said_of around names ys)
-      → list_all (λ part. part counts scalars) (map is_plain_expression (exprs_of ys)) ≡ true
+      → list_all (λ part. part parameters scalars) (map is_plain_expression (exprs_of ys)) ≡ true
   parts_clear around names scalars m a [] e fine = refl
   parts_clear around names scalars m a (y ∷ ys) e fine =
       let rest : Bool = list_all (λ part. part) (map is_sized (exprs_of ys)) in
-      and_from (is_plain_expression y.0 counts scalars) (list_all (λ part. part counts scalars) (map is_plain_expression (exprs_of ys)))
+      and_from (is_plain_expression y.0 parameters scalars) (list_all (λ part. part parameters scalars) (map is_plain_expression (exprs_of ys)))
       (y.1.plain_is around names scalars m a (and_left (is_sized y.0) rest e) fine.0)
       (parts_clear around names scalars m a ys (and_right (is_sized y.0) rest e) fine.1)
 
@@ -200,18 +212,18 @@ module _ (counts : Counts) where
       (plain_expression_step (layer.Apply name (map is_plain_expression (exprs_of ys))))
   apply_clear name ys = record {
     plain_is = λ around names scalars m a s e.
-        let parts : List (Counts → ScalarNames → Bool) = map is_plain_expression (exprs_of ys) in
-        let c = applied_called around (is_among name scalars) (bound_to name counts) (said_of around names ys) (bound_to name names) (a.meant name) e in
-        let size : takes (bound_to name counts) (length parts) ≡ true = ap (λ n. takes (bound_to name counts) n) (sym (lengths around names ys)) ∙ c.takes_so in
-        and_from (not (is_among name scalars) && takes (bound_to name counts) (length parts)) (list_all (λ part. part counts scalars) parts)
-        (and_from (not (is_among name scalars)) (takes (bound_to name counts) (length parts)) (ap not c.other) size)
+        let parts : List (Parameters → NamedKinds → Bool) = map is_plain_expression (exprs_of ys) in
+        let c = applied_called around (bound_to name scalars) (bound_to name parameters) (said_of around names ys) (bound_to name names) (a.meant name) e in
+        let size : is_applied (bound_to name scalars) (bound_to name parameters) (length parts) ≡ true =
+        ap (λ n. is_applied (bound_to name scalars) (bound_to name parameters) n) (sym (lengths around names ys)) ∙ c.is in
+        and_from (is_applied (bound_to name scalars) (bound_to name parameters) (length parts)) (list_all (λ part. part parameters scalars) parts) size
         (parts_clear around names scalars m a ys s c.fine);
   }
 
   level_clear : (y : Expr-F ((e : Expr) × IsClearly e))
       → IsClear (judging_step (map-Expr Expr Judging judged_of (map-Expr ((e : Expr) × IsClearly e) Expr (λ e. e.0) y)))
       (sized_step (map-Expr Expr Bool is_sized (map-Expr ((e : Expr) × IsClearly e) Expr (λ e. e.0) y)))
-      (plain_expression_step (map-Expr Expr (Counts → ScalarNames → Bool) is_plain_expression (map-Expr ((e : Expr) × IsClearly e) Expr (λ e. e.0) y)))
+      (plain_expression_step (map-Expr Expr (Parameters → NamedKinds → Bool) is_plain_expression (map-Expr ((e : Expr) × IsClearly e) Expr (λ e. e.0) y)))
   level_clear (layer.Number ty number) = record { plain_is = λ around names scalars m a s e. s }
   level_clear (layer.Name name) = name_clear name
   level_clear (layer.Field name field) = field_clear name field
@@ -225,12 +237,12 @@ module _ (counts : Counts) where
   level_clear (layer.Apply name ys) = apply_clear name ys
 
   rolled : (x : Expr-F Expr) → IsClear (judging_step (map-Expr Expr Judging judged_of x)) (sized_step (map-Expr Expr Bool is_sized x))
-      (plain_expression_step (map-Expr Expr (Counts → ScalarNames → Bool) is_plain_expression x)) → IsClearly (roll-Expr x)
+      (plain_expression_step (map-Expr Expr (Parameters → NamedKinds → Bool) is_plain_expression x)) → IsClearly (roll-Expr x)
   rolled x is =
       subst (λ (j : Judging). IsClear j (is_sized (roll-Expr x)) (is_plain_expression (roll-Expr x))) (sym (fold-roll-Expr Judging judging_step x))
       (subst (λ (b : Bool). IsClear (judging_step (map-Expr Expr Judging judged_of x)) b (is_plain_expression (roll-Expr x))) (sym (fold-roll-Expr Bool sized_step x))
-      (subst (λ (p : Counts → ScalarNames → Bool). IsClear (judging_step (map-Expr Expr Judging judged_of x)) (sized_step (map-Expr Expr Bool is_sized x)) p)
-      (sym (fold-roll-Expr (Counts → ScalarNames → Bool) plain_expression_step x)) is))
+      (subst (λ (p : Parameters → NamedKinds → Bool). IsClear (judging_step (map-Expr Expr Judging judged_of x)) (sized_step (map-Expr Expr Bool is_sized x)) p)
+      (sym (fold-roll-Expr (Parameters → NamedKinds → Bool) plain_expression_step x)) is))
 
   -- each expression without a fault is plain
   pub expression_clear : (e : Expr) → IsClearly e

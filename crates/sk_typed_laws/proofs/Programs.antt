@@ -10,14 +10,15 @@ use Rattle.sk_isa.specs.declared.object.Signature.{Signature}
 use Rattle.sk_names.specs.Bindings.{bound_to}
 use Rattle.sk_names.specs.Bytes.{same_bytes}
 use Rattle.sk_plain.proofs.Lists.{slice_get-front}
-use Rattle.sk_plain.proofs.Parameters.{scalar_kinds}
+use Rattle.sk_plain.proofs.Parameters.{kinds_all}
 use Rattle.sk_plain.proofs.Truths.{and_left, and_right, some_same}
-use Rattle.sk_plain.specs.Plain.{Counts, IsPlain}
+use Rattle.sk_plain.specs.Plain.{Parameters, IsPlain}
 use Rattle.sk_scheme.specs.Plans.{functions_before_main, functions_object, main_signature, plans_in}
 use Rattle.sk_scheme.specs.Scheme.{Known as Callee, known_of, known_after, known_functions, codes_after, codes_of, signature_of, signatures_after, signatures_of}
 use Rattle.sk_tree.specs.Functions.{kinds_of, body_of}
-use Rattle.sk_tree.specs.Parameters.{are_ordered}
+use Rattle.sk_tree.specs.Parameters.{are_ordered, is_scalar}
 use Rattle.sk_tree.specs.declared.tree.Function.{Function}
+use Rattle.sk_tree.specs.declared.tree.ParamKind.{ParamKind}
 use Rattle.sk_tree.specs.declared.tree.Program.{Program}
 use Rattle.sk_typed_laws.proofs.Functions.{IsListedAs, AreListed, next_listed, before_last, typed_functions_plain}
 use Rattle.sk_typed_laws.proofs.Instances.{HasFunctions, plans_sound}
@@ -35,26 +36,26 @@ use Rattle.sk_typing.specs.declared.names.Known.TheVariants.{Variable, Function 
 
 -- ---- the functions in scope, one after another
 
-known_later : (functions : List Function) (number : ℕ) (count : Option ℕ) (earlier : Option Known) (callee : Option Callee) → IsListedAs functions number count earlier
+known_later : (functions : List Function) (number : ℕ) (kinds : Option (List ParamKind)) (earlier : Option Known) (callee : Option Callee) → IsListedAs functions number kinds earlier
     → IsKnownAs functions number earlier callee → IsKnownAs functions (suc number) earlier callee
-known_later functions number count None callee listed h = tt
-known_later functions number count (Some (FunctionName other)) callee listed h = λ below function is. h listed.0 function is
-known_later functions number count (Some (Variable kind)) callee listed h = tt
-known_later functions number count (Some (InstanceName made)) callee listed h = tt
-known_later functions number count (Some Broken) callee listed h = tt
+known_later functions number kinds None callee listed h = tt
+known_later functions number kinds (Some (FunctionName other)) callee listed h = λ below function is. h listed.0 function is
+known_later functions number kinds (Some (Variable kind)) callee listed h = tt
+known_later functions number kinds (Some (InstanceName made)) callee listed h = tt
+known_later functions number kinds (Some Broken) callee listed h = tt
 
 one_known : (functions : List Function) (number : ℕ) (function : Function) → slice_get functions number ≡ Some function
-    → (same : Bool) (count : Option ℕ) (earlier : Option Known) (callee : Option Callee) → IsListedAs functions number count earlier → IsKnownAs functions number earlier callee
+    → (same : Bool) (kinds : Option (List ParamKind)) (earlier : Option Known) (callee : Option Callee) → IsListedAs functions number kinds earlier → IsKnownAs functions number earlier callee
     → IsKnownAs functions (suc number) (if same then Some (FunctionName number) else earlier) (if same then Some (known_of number function) else callee)
-one_known functions number function there true count earlier callee listed h =
+one_known functions number function there true kinds earlier callee listed h =
     λ below other is. ap (λ (f : Function). Some (known_of number f)) (some_same function other (sym there ∙ is))
-one_known functions number function there false count earlier callee listed h = known_later functions number count earlier callee listed h
+one_known functions number function there false kinds earlier callee listed h = known_later functions number kinds earlier callee listed h
 
-next_known : (functions : List Function) (number : ℕ) (counts : Counts) (names : Knowns) (callees : List (List ℕ × Callee)) (function : Function) → slice_get functions number ≡ Some function
-    → AreListed functions number counts names → AreKnown functions number names callees
+next_known : (functions : List Function) (number : ℕ) (parameters : Parameters) (names : Knowns) (callees : List (List ℕ × Callee)) (function : Function) → slice_get functions number ≡ Some function
+    → AreListed functions number parameters names → AreKnown functions number names callees
     → AreKnown functions (suc number) ((function.name, FunctionName number) ∷ names) ((function.name, known_of number function) ∷ callees)
-next_known functions number counts names callees function there listed h = record {
-  known = λ other. one_known functions number function there (same_bytes function.name other) (bound_to other counts) (bound_to other names) (bound_to other callees)
+next_known functions number parameters names callees function there listed h = record {
+  known = λ other. one_known functions number function there (same_bytes function.name other) (bound_to other parameters) (bound_to other names) (bound_to other callees)
       (listed.listed other) (h.known other);
 }
 
@@ -73,15 +74,15 @@ pub record IsReached (all : List Function) (callees : List (List ℕ × Callee))
   pub number : ℕ
   pub last : length all - 1 ≡ number
   pub within : number ≤ length all
-  pub counts : Counts
+  pub parameters : Parameters
   pub names : Knowns
-  pub listed : AreListed all number counts names
+  pub listed : AreListed all number parameters names
   pub known : AreKnown all number (names_within all number main names) callees
   pub told : (in_order (map walking_of main.body) (main_around all number main) (names_within all number main names)).faults ≡ []
 
-last_reached : (all : List Function) (main : Function) (number : ℕ) (counts : Counts) (names : Knowns) (callees : List (List ℕ × Callee)) → number + 1 ≡ length all
-    → AreListed all number counts names → AreKnown all number names callees → functions_faults all number names (main ∷ []) ≡ [] → IsReached all callees main
-last_reached all main number counts names callees size listed known e =
+last_reached : (all : List Function) (main : Function) (number : ℕ) (parameters : Parameters) (names : Knowns) (callees : List (List ℕ × Callee)) → number + 1 ≡ length all
+    → AreListed all number parameters names → AreKnown all number names callees → functions_faults all number names (main ∷ []) ≡ [] → IsReached all callees main
+last_reached all main number parameters names callees size listed known e =
     let around : Around = main_around all number main in
     let within : Knowns = (main.name, FunctionName number) ∷ names in
     let params : Walked = params_walked around within main.params in
@@ -95,21 +96,21 @@ last_reached all main number counts names callees size listed known e =
       number = number;
       last = omega (arith, size);
       within = omega (arith, size);
-      counts = counts;
+      parameters = parameters;
       names = names;
       listed = listed;
       known = known_params all number around main.params within callees (known_own all number main.name names callees known);
       told = (no_faults (params.faults ++ order) walked.faults (no_faults (params.faults ++ order ++ walked.faults) ends own).0).1;
     }
 
-reached_from : (all functions : List Function) (number : ℕ) (counts : Counts) (names : Knowns) (callees : List (List ℕ × Callee)) → number + length functions ≡ length all
+reached_from : (all functions : List Function) (number : ℕ) (parameters : Parameters) (names : Knowns) (callees : List (List ℕ × Callee)) → number + length functions ≡ length all
     → ((k : ℕ) (function : Function) → slice_get functions k ≡ Some function → slice_get all (number + k) ≡ Some function)
-    → AreListed all number counts names → AreKnown all number names callees → functions_faults all number names functions ≡ []
+    → AreListed all number parameters names → AreKnown all number names callees → functions_faults all number names functions ≡ []
     → (main : Function) → slice_get functions (length functions - 1) ≡ Some main → IsReached all (known_after number callees (before_last functions)) main
-reached_from all [] number counts names callees size places listed known e main there = let no : ⊥ = cc in absurd no
-reached_from all (last ∷ []) number counts names callees size places listed known e main there =
-    subst (λ (f : Function). IsReached all callees f) (some_same last main there) (last_reached all last number counts names callees size listed known e)
-reached_from all (function ∷ next ∷ functions) number counts names callees size places listed known e main there =
+reached_from all [] number parameters names callees size places listed known e main there = let no : ⊥ = cc in absurd no
+reached_from all (last ∷ []) number parameters names callees size places listed known e main there =
+    subst (λ (f : Function). IsReached all callees f) (some_same last main there) (last_reached all last number parameters names callees size listed known e)
+reached_from all (function ∷ next ∷ functions) number parameters names callees size places listed known e main there =
     let rest : List Function = next ∷ functions in
     let length_is : length (function ∷ next ∷ functions) - 1 ≡ suc (length (next ∷ functions) - 1) = omega arith in
     let around : Around = record { functions = all; number = number; in_main = false; outermost = true; line = function.line } in
@@ -117,10 +118,10 @@ reached_from all (function ∷ next ∷ functions) number counts names callees s
     let told = no_faults (twice_faults around names function.name ++ body_faults around within function) (functions_faults all (suc number) within rest) e in
     let z : number + 0 ≡ number = omega arith in
     let own : slice_get all number ≡ Some function = subst (λ n. slice_get all n ≡ Some function) z (places 0 function refl) in
-    let more = reached_from all (next ∷ functions) (suc number) ((function.name, length function.params) ∷ counts) within ((function.name, known_of number function) ∷ callees)
+    let more = reached_from all (next ∷ functions) (suc number) ((function.name, kinds_of function) ∷ parameters) within ((function.name, known_of number function) ∷ callees)
     (omega (arith, size))
     (λ k f is. let n : number + suc k ≡ suc number + k = omega arith in subst (λ m. slice_get all m ≡ Some f) n (places (suc k) f is))
-    (next_listed all number counts names function own listed) (next_known all number counts names callees function own listed known) told.1
+    (next_listed all number parameters names function own listed) (next_known all number parameters names callees function own listed known) told.1
     main (sym (ap (λ n. slice_get (function ∷ rest) n) length_is) ∙ there) in
     subst (λ n. IsReached all (known_after number callees (take n (function ∷ rest))) main) (sym length_is) more
 
@@ -180,7 +181,7 @@ has_functions program scalars =
             own.0,
             slice_get-front (signatures_of functions) (main_signature ∷ []) number own.0 own.1,
             own.2,
-            scalar_kinds function.params (all_at takes_scalars functions scalars number function found),
+            kinds_all is_scalar function.params (all_at takes_scalars functions scalars number function found),
           );
     }
 
@@ -206,6 +207,6 @@ typed_vectors_plain program typed from form =
     let many : length (functions_before_main program) ≡ length all - 1 = taken_length (length all - 1) all (omega arith) in
     let plans = plans_of_main program typed form (slice_get all (length all - 1)) refl in
     record {
-      functions = typed_functions_plain program typed (texts_formed program from) form.functions;
+      functions = typed_functions_plain program typed (texts_formed program from);
       instances = subst (λ n. All (IsSoundPlan (functions_object program)) (plans_in (known_functions (functions_before_main program)) (body_of (slice_get all n)))) (sym many) plans;
     }

@@ -1,4 +1,4 @@
--- A statement of a function that takes scalars is plain, where no fault is told of it and it is formed as a text has it.
+-- A statement of a function is plain, where no fault is told of it and it is formed as a text has it.
 use Rattle.std.proofs.Common.{◌≡◌, ℕ, Bool, true, false, List, [], ◌∷◌, ◌++◌, map, Option, Some, None, if◌then◌else◌, refl, sym, ap, ◌∙◌, subst}
 use Rattle.std.proofs.lemmas.Bool.{and_from}
 use Rattle.std.specs.Prelude.{◌&&◌, ◌||◌}
@@ -7,15 +7,17 @@ use Rattle.sk_base.specs.declared.number.Ty.{Ty}
 use Rattle.sk_names.specs.Bindings.{bound_to}
 use Rattle.sk_plain.proofs.Parts.{statements_of, plain_level}
 use Rattle.sk_plain.proofs.Truths.{and_left, and_right}
-use Rattle.sk_plain.specs.Plain.{Counts, ScalarNames, is_among, is_plain_expression, is_some, is_some_and, Plainness, plainness_of, plainness_step, all_behind, block_is_plain, behind_if, loop_is_plain}
+use Rattle.sk_plain.specs.Plain.{Parameters, NamedKinds, is_scalar_name, is_plain_expression, is_some, is_some_and, Plainness, plainness_of, plainness_step, all_behind, block_is_plain, behind_if, loop_is_plain}
 use Rattle.sk_plain.specs.PlainLaws.{plainness_what}
 use Rattle.sk_tree.specs.declared.tree.Expr.{Expr}
+use Rattle.sk_tree.specs.Parameters.{is_scalar}
+use Rattle.sk_tree.specs.declared.tree.ParamKind.{ParamKind}
 use Rattle.sk_tree.specs.declared.tree.ParamKind.TheVariants.{Scalar, Index, Proxy, Region}
 use Rattle.sk_tree.specs.declared.tree.Statement.{Statement, Statement-F, roll-Statement, map-Statement, ind-Statement, fold-roll-Statement}
 use Rattle.sk_tree.specs.declared.tree.What.{What, What-F, roll-What, map-What, fold-What, fold-roll-What}
 use Rattle.sk_tree.specs.declared.tree.What.TheOpen as what
 use Rattle.sk_typed_laws.proofs.Expressions.{expression_clear}
-use Rattle.sk_typed_laws.proofs.Meant.{IsMeant, Agree, agree_scalar}
+use Rattle.sk_typed_laws.proofs.Meant.{IsMeant, Agree, agree_variable}
 use Rattle.sk_typed_laws.proofs.Untold.{no_faults}
 use Rattle.sk_typed_laws.specs.Forms.{is_sized, Formed, formed_of, formed_step, only_sized, all_sized}
 use Rattle.sk_typing.specs.TypingExpressions.{value_faults}
@@ -36,30 +38,30 @@ not_of_main around walked names m e = by_test around.in_main m e
     by_test false m e = cc
 
 -- an assignment without a fault is to a scalar
-assign_parts : (around : Around) (among : Bool) (count : Option ℕ) (known : Option Known) (value : List Fault) → IsMeant around.functions around.number among count known
-    → assign_faults around known value ≡ [] → (among ≡ true) × (value ≡ [])
-assign_parts around among count None value h e = let no : ⊥ = cc in absurd no
-assign_parts around among count (Some (Variable (Scalar ty))) value h e = (h, e)
-assign_parts around among count (Some (Variable (Index dimension))) value h e = absurd h
-assign_parts around among count (Some (Variable (Proxy dimension ty))) value h e = absurd h
-assign_parts around among count (Some (Variable (Region dimension ty))) value h e = absurd h
-assign_parts around among count (Some (FunctionName number)) value h e = let no : ⊥ = cc in absurd no
-assign_parts around among count (Some (InstanceName made)) value h e = absurd h
-assign_parts around among count (Some Broken) value h e = absurd h
+assign_parts : (around : Around) (kind : Option ParamKind) (kinds : Option (List ParamKind)) (known : Option Known) (value : List Fault) → IsMeant around.functions around.number kind kinds known
+    → assign_faults around known value ≡ [] → (is_some_and is_scalar kind ≡ true) × (value ≡ [])
+assign_parts around kind kinds None value h e = let no : ⊥ = cc in absurd no
+assign_parts around kind kinds (Some (Variable (Scalar ty))) value h e = (ap (λ (k : Option ParamKind). is_some_and is_scalar k) h, e)
+assign_parts around kind kinds (Some (Variable (Index dimension))) value h e = let no : ⊥ = cc in absurd no
+assign_parts around kind kinds (Some (Variable (Proxy dimension ty))) value h e = let no : ⊥ = cc in absurd no
+assign_parts around kind kinds (Some (Variable (Region dimension ty))) value h e = let no : ⊥ = cc in absurd no
+assign_parts around kind kinds (Some (FunctionName number)) value h e = let no : ⊥ = cc in absurd no
+assign_parts around kind kinds (Some (InstanceName made)) value h e = absurd h
+assign_parts around kind kinds (Some Broken) value h e = absurd h
 
 abbrev pub formed_what : What → Formed
 formed_what = fold-What Formed Formed formed_step (λ statement. statement.what)
 
-module _ (counts : Counts) where
+module _ (parameters : Parameters) where
   -- the scalars in scope behind what is plain
-  pub record IsBehind (around : Around) (names : Knowns) (after : Option ScalarNames) : Type 0 where
-    pub scalars : ScalarNames
+  pub record IsBehind (around : Around) (names : Knowns) (after : Option NamedKinds) : Type 0 where
+    pub scalars : NamedKinds
     pub is : after ≡ Some scalars
-    pub agree : Agree around.functions around.number counts names scalars
+    pub agree : Agree around.functions around.number parameters names scalars
 
   abbrev Behind : Walking → Bool → Plainness → Type 0
-  Behind walk sized plain = (around : Around) (names : Knowns) (scalars : ScalarNames) → around.in_main ≡ false → Agree around.functions around.number counts names scalars
-      → sized ≡ true → (walk around names).faults ≡ [] → IsBehind around (walk around names).names (plain.behind counts scalars)
+  Behind walk sized plain = (around : Around) (names : Knowns) (scalars : NamedKinds) → around.in_main ≡ false → Agree around.functions around.number parameters names scalars
+      → sized ≡ true → (walk around names).faults ≡ [] → IsBehind around (walk around names).names (plain.behind parameters scalars)
 
   -- a statement without a fault is plain
   pub record IsClearStatement (walk : Walking) (form : Formed) (plain : Plainness) : Type 0 where
@@ -84,7 +86,7 @@ module _ (counts : Counts) where
   }
 
   -- a statement that is plain under a test, and declares nothing
-  tested : (around : Around) (names : Knowns) (scalars : ScalarNames) (test : Bool) → test ≡ true → Agree around.functions around.number counts names scalars
+  tested : (around : Around) (names : Knowns) (scalars : NamedKinds) (test : Bool) → test ≡ true → Agree around.functions around.number parameters names scalars
       → IsBehind around names (behind_if test scalars)
   tested around names scalars test e a = record { scalars = scalars; is = ap (λ b. behind_if b scalars) e; agree = a }
 
@@ -96,11 +98,11 @@ module _ (counts : Counts) where
     behind = λ around names scalars m a s e.
         let here : Around = record around { line = line } in
         let parts = no_faults (twice_faults here names name) (value_faults here names expr) e in
-        let fine = (expression_clear counts expr).plain_is here names scalars m a s parts.1 in
+        let fine = (expression_clear parameters expr).plain_is here names scalars m a s parts.1 in
         record {
-          scalars = name ∷ scalars;
-          is = ap (λ b. behind_if b (name ∷ scalars)) fine;
-          agree = agree_scalar around.functions around.number counts names scalars name ty a;
+          scalars = (name, Scalar ty) ∷ scalars;
+          is = ap (λ b. behind_if b ((name, Scalar ty) ∷ scalars)) fine;
+          agree = agree_variable around.functions around.number parameters names scalars name (Scalar ty) a;
         };
   }
 
@@ -111,17 +113,17 @@ module _ (counts : Counts) where
     step = λ around names m l e. refl;
     behind = λ around names scalars m a s e.
         let here : Around = record around { line = line } in
-        let parts = assign_parts here (is_among name scalars) (bound_to name counts) (bound_to name names) (value_faults here names expr) (a.meant name) e in
-        let fine = (expression_clear counts expr).plain_is here names scalars m a s parts.1 in
-        tested around names scalars (is_among name scalars && is_plain_expression expr counts scalars)
-        (and_from (is_among name scalars) (is_plain_expression expr counts scalars) parts.0 fine) a;
+        let parts = assign_parts here (bound_to name scalars) (bound_to name parameters) (bound_to name names) (value_faults here names expr) (a.meant name) e in
+        let fine = (expression_clear parameters expr).plain_is here names scalars m a s parts.1 in
+        tested around names scalars (is_scalar_name name scalars && is_plain_expression expr parameters scalars)
+        (and_from (is_scalar_name name scalars) (is_plain_expression expr parameters scalars) parts.0 fine) a;
   }
 
   return_clear : (expr : Expr) (line : ℕ)
       → IsClearStatement (walking_step (what.Return expr) line) (formed_step (what.Return expr)) (plainness_step (what.Return expr))
   return_clear expr line = heavy_clear _ _ _ (λ around names scalars m a s e.
-      tested around names scalars (is_plain_expression expr counts scalars)
-      ((expression_clear counts expr).plain_is (record around { line = line }) names scalars m a s e) a)
+      tested around names scalars (is_plain_expression expr parameters scalars)
+      ((expression_clear parameters expr).plain_is (record around { line = line }) names scalars m a s e) a)
 
   abbrev pub IsClearly : Statement → Type 0
   IsClearly s = IsClearStatement (walking_of s) (formed_of s) (plainness_of s)
@@ -141,9 +143,9 @@ module _ (counts : Counts) where
   abbrev plains : Parts → List Plainness
   plains ys = map plainness_of (statements_of ys)
 
-  sequence_clear : (ys : Parts) (around : Around) (names : Knowns) (scalars : ScalarNames) → around.in_main ≡ false → Agree around.functions around.number counts names scalars
+  sequence_clear : (ys : Parts) (around : Around) (names : Knowns) (scalars : NamedKinds) → around.in_main ≡ false → Agree around.functions around.number parameters names scalars
       → all_sized (forms ys) ≡ true → (in_order (walks ys) around names).faults ≡ []
-      → IsBehind around (in_order (walks ys) around names).names (all_behind (plains ys) counts scalars)
+      → IsBehind around (in_order (walks ys) around names).names (all_behind (plains ys) parameters scalars)
   sequence_clear [] around names scalars m a s e = record { scalars = scalars; is = refl; agree = a }
   sequence_clear (y ∷ ys) around names scalars m a s e =
       let first : Walked = walking_of y.0 around names in
@@ -152,12 +154,12 @@ module _ (counts : Counts) where
       let more = sequence_clear ys around first.names one.scalars m one.agree (and_right (formed_of y.0).sized (all_sized (forms ys)) s) parts.1 in
       record {
         scalars = more.scalars;
-        is = ap (λ o. option_and_then (λ inner. all_behind (plains ys) counts inner) o) one.is ∙ more.is;
+        is = ap (λ o. option_and_then (λ inner. all_behind (plains ys) parameters inner) o) one.is ∙ more.is;
         agree = more.agree;
       }
 
-  block_clear : (ys : Parts) (around : Around) (names : Knowns) (scalars : ScalarNames) → around.in_main ≡ false → Agree around.functions around.number counts names scalars
-      → all_sized (forms ys) ≡ true → block_faults (walks ys) around names ≡ [] → block_is_plain (plains ys) counts scalars ≡ true
+  block_clear : (ys : Parts) (around : Around) (names : Knowns) (scalars : NamedKinds) → around.in_main ≡ false → Agree around.functions around.number parameters names scalars
+      → all_sized (forms ys) ≡ true → block_faults (walks ys) around names ≡ [] → block_is_plain (plains ys) parameters scalars ≡ true
   block_clear ys around names scalars m a s e = ap is_some (sequence_clear ys (inside around) names scalars m a s e).is
 
   if_clear : (test : Expr) (ys zs : Parts) (line : ℕ)
@@ -167,10 +169,10 @@ module _ (counts : Counts) where
       let parts = no_faults (value_faults here names test ++ block_faults (walks ys) here names) (block_faults (walks zs) here names) e in
       let more = no_faults (value_faults here names test) (block_faults (walks ys) here names) parts.0 in
       let two = and_left (is_sized test && all_sized (forms ys)) (all_sized (forms zs)) s in
-      let t : Bool = is_plain_expression test counts scalars in
-      let b : Bool = block_is_plain (plains ys) counts scalars in
-      let c : Bool = block_is_plain (plains zs) counts scalars in
-      let t_is = (expression_clear counts test).plain_is here names scalars m a (and_left (is_sized test) (all_sized (forms ys)) two) more.0 in
+      let t : Bool = is_plain_expression test parameters scalars in
+      let b : Bool = block_is_plain (plains ys) parameters scalars in
+      let c : Bool = block_is_plain (plains zs) parameters scalars in
+      let t_is = (expression_clear parameters test).plain_is here names scalars m a (and_left (is_sized test) (all_sized (forms ys)) two) more.0 in
       let b_is = block_clear ys here names scalars m a (and_right (is_sized test) (all_sized (forms ys)) two) more.1 in
       let c_is = block_clear zs here names scalars m a (and_right (is_sized test && all_sized (forms ys)) (all_sized (forms zs)) s) parts.1 in
       tested around names scalars (t && b && c) (and_from (t && b) c (and_from t b t_is b_is) c_is) a)
@@ -197,16 +199,16 @@ module _ (counts : Counts) where
       let light = f.light here names m (and_left ff.is_light fs.is_step s2) e1.0 in
       let assigns = g.step here begun.names m (and_right ff.is_light fs.is_step s2) e3.1 in
       let after = g.behind here begun.names one.scalars m one.agree (and_right (ff.is_light && fs.is_step && ff.sized && is_sized test) fs.sized s5) e3.1 in
-      let t_is = (expression_clear counts test).plain_is here begun.names one.scalars m one.agree (and_right (ff.is_light && fs.is_step && ff.sized) (is_sized test) s4) e1.1 in
+      let t_is = (expression_clear parameters test).plain_is here begun.names one.scalars m one.agree (and_right (ff.is_light && fs.is_step && ff.sized) (is_sized test) s4) e1.1 in
       let b_is = block_clear ys here begun.names one.scalars m one.agree (and_right (ff.is_light && fs.is_step && ff.sized && is_sized test && fs.sized) body s) e2.1 in
-      let parts : ScalarNames → Bool = λ inner. is_plain_expression test counts inner && block_is_plain (plains ys) counts inner && is_some (js.behind counts inner) in
-      let t : Bool = is_plain_expression test counts one.scalars in
-      let b : Bool = block_is_plain (plains ys) counts one.scalars in
-      let c : Bool = is_some (js.behind counts one.scalars) in
+      let parts : NamedKinds → Bool = λ inner. is_plain_expression test parameters inner && block_is_plain (plains ys) parameters inner && is_some (js.behind parameters inner) in
+      let t : Bool = is_plain_expression test parameters one.scalars in
+      let b : Bool = block_is_plain (plains ys) parameters one.scalars in
+      let c : Bool = is_some (js.behind parameters one.scalars) in
       let inner : parts one.scalars ≡ true = and_from (t && b) c (and_from t b t_is b_is) (ap is_some after.is) in
-      let all : is_some_and parts (jf.behind counts scalars) ≡ true = ap (λ o. is_some_and parts o) one.is ∙ inner in
-      tested around names scalars (loop_is_plain jf test js (plains ys) counts scalars)
-      (and_from ((jf.declares || jf.assigns) && js.assigns) (is_some_and parts (jf.behind counts scalars))
+      let all : is_some_and parts (jf.behind parameters scalars) ≡ true = ap (λ o. is_some_and parts o) one.is ∙ inner in
+      tested around names scalars (loop_is_plain jf test js (plains ys) parameters scalars)
+      (and_from ((jf.declares || jf.assigns) && js.assigns) (is_some_and parts (jf.behind parameters scalars))
       (and_from (jf.declares || jf.assigns) js.assigns light assigns) all) a)
 
   abbrev ClearWhat : Type 0
@@ -267,10 +269,10 @@ module _ (counts : Counts) where
   without_proofs (s ∷ ss) = ap (λ l. s ∷ l) (without_proofs ss)
 
   -- statements one after another
-  pub statements_clear : (ss : List Statement) (around : Around) (names : Knowns) (scalars : ScalarNames) → around.in_main ≡ false
-      → Agree around.functions around.number counts names scalars → all_sized (map formed_of ss) ≡ true → (in_order (map walking_of ss) around names).faults ≡ []
-      → IsBehind around (in_order (map walking_of ss) around names).names (all_behind (map plainness_of ss) counts scalars)
+  pub statements_clear : (ss : List Statement) (around : Around) (names : Knowns) (scalars : NamedKinds) → around.in_main ≡ false
+      → Agree around.functions around.number parameters names scalars → all_sized (map formed_of ss) ≡ true → (in_order (map walking_of ss) around names).faults ≡ []
+      → IsBehind around (in_order (map walking_of ss) around names).names (all_behind (map plainness_of ss) parameters scalars)
   statements_clear ss around names scalars m a =
       subst (λ (l : List Statement). all_sized (map formed_of l) ≡ true → (in_order (map walking_of l) around names).faults ≡ []
-      → IsBehind around (in_order (map walking_of l) around names).names (all_behind (map plainness_of l) counts scalars))
+      → IsBehind around (in_order (map walking_of l) around names).names (all_behind (map plainness_of l) parameters scalars))
       (without_proofs ss) (sequence_clear (with_proofs ss) around names scalars m a)

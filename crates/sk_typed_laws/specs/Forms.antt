@@ -1,14 +1,14 @@
 -- What the text of a program alone says of its expressions and statements, whatever its names stand for.
 use Rattle.std.specs.Prelude.{◌≡◌, ℕ, ◌-◌, Bool, true, false, ◌&&◌, ◌==◌, List, [], ◌∷◌, length, map, nat_le, slice_get, Ok}
 use Rattle.std.specs.List.{list_all}
+use Rattle.sk_isa.specs.Soundness.{is_kind}
 use Rattle.sk_plain.specs.Plain.{fits_type}
-use Rattle.sk_scheme.specs.Plans.{functions_before_main}
+pub use Rattle.sk_plain.specs.Plain.{takes_scalars, FunctionsTakeScalars}
 use Rattle.sk_tokens.specs.Tokens.{tokens_of}
 use Rattle.sk_tokens.specs.declared.token.Token.{Token}
 use Rattle.sk_tokens.specs.declared.token.TokenKind.{TokenKind}
 use Rattle.sk_tokens.specs.declared.token.TokenKind.TheVariants.{Word, Number as NumberToken, Text as TextToken, Sign}
 use Rattle.sk_tree.specs.Functions.{body_of}
-use Rattle.sk_tree.specs.Parameters.{is_scalar}
 use Rattle.sk_tree.specs.declared.tree.Expr.{Expr, fold-Expr}
 use Rattle.sk_tree.specs.declared.tree.Expr.TheOpen.{Expr-F, Number, Name, Field, Method, Unary, Cast, Binary, Both, Either, Choose, Apply}
 use Rattle.sk_tree.specs.declared.tree.Function.{Function}
@@ -96,17 +96,14 @@ body_formed function = all_sized (map formed_of function.body)
 abbrev pub has_few : Function → Bool
 has_few function = nat_le (length function.params) 64
 
--- every body is formed as a text has it, and no function has more than 64 parameters
+abbrev pub has_kinds : Function → Bool
+has_kinds function = list_all (λ param. is_kind param.kind) function.params
+
+-- every body is formed as a text has it, and no function has more than 64 parameters or one of a kind that there is not
 pub record IsFormed (program : Program) : Type 0 where
   pub bodies : list_all body_formed program.functions ≡ true
   pub few : list_all has_few program.functions ≡ true
-
-abbrev pub takes_scalars : Function → Bool
-takes_scalars function = list_all (λ param. is_scalar param.kind) function.params
-
--- every parameter of every function before main is a scalar
-abbrev pub FunctionsTakeScalars : Program → Type 0
-FunctionsTakeScalars program = list_all takes_scalars (functions_before_main program) ≡ true
+  pub kinds : list_all has_kinds program.functions ≡ true
 
 -- main, by its place
 abbrev pub last_body : List Function → List Statement

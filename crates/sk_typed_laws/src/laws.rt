@@ -3,7 +3,7 @@ ghost use Rattle.sk_grammar.specs.Limits.{IsFromTextWithin};
 ghost use Rattle.sk_plain.specs.Plain.{ArePlain, IsPlain};
 ghost use Rattle.sk_scheme.specs.Plans.{functions_before_main};
 ghost use Rattle.sk_tree.specs.declared.tree.Program.{Program};
-ghost use Rattle.sk_typed_laws.specs.Forms.{FunctionsTakeScalars, HasVectorForm, IsFormed, NumbersFit};
+ghost use Rattle.sk_typed_laws.specs.Forms.{HasVectorForm, IsFormed, NumbersFit};
 ghost use Rattle.sk_typing.specs.Typing.{IsTyped};
 
 /// A law: each number among the tokens of a text fits its type.
@@ -16,9 +16,9 @@ pub fn programs_of_texts_are_formed()
     ensures { (program : Program) → IsFromTextWithin program → IsFormed program }
 {}
 
-/// A law: the functions of a typed program that take scalars are plain.
+/// A law: the functions of a typed program are plain, whatever their parameters.
 pub fn typed_functions_are_plain()
-    ensures { (program : Program) → IsTyped program → IsFormed program → FunctionsTakeScalars program → ArePlain [] (functions_before_main program) }
+    ensures { (program : Program) → IsTyped program → IsFormed program → ArePlain [] (functions_before_main program) }
 {}
 
 /// A law: a typed program of vectors that a text has within the limits is plain.

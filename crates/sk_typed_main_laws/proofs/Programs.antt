@@ -19,6 +19,7 @@ use Rattle.sk_tree.specs.Parameters.{same_type}
 use Rattle.sk_tree.specs.declared.tree.Function.{Function}
 use Rattle.sk_tree.specs.declared.tree.Instance.{Instance}
 use Rattle.sk_tree.specs.declared.tree.Param.{Param}
+use Rattle.sk_tree.specs.declared.tree.ParamKind.{ParamKind}
 use Rattle.sk_tree.specs.declared.tree.Program.{Program}
 use Rattle.sk_base.specs.declared.number.Ty.TheVariants.{Int}
 use Rattle.sk_typed_laws.proofs.Functions.{IsListedAs}
@@ -85,17 +86,17 @@ none_are (param ∷ params) e = let never : ⊥ = cc in absurd never
 
 -- where main begins, no name is in scope but those of functions
 module _ (functions : List Function) (number : ℕ) where
-  nothing_named : (count : Option ℕ) (known : Option Known) → IsListedAs functions number count known → IsNamedAs functions None known
-  nothing_named count None h = tt
-  nothing_named count (Some (FunctionName other)) h = refl
-  nothing_named count (Some (Variable kind)) h = absurd h
-  nothing_named count (Some (InstanceName made)) h = absurd h
-  nothing_named count (Some Broken) h = absurd h
+  nothing_named : (kinds : Option (List ParamKind)) (known : Option Known) → IsListedAs functions number kinds known → IsNamedAs functions None known
+  nothing_named kinds None h = tt
+  nothing_named kinds (Some (FunctionName other)) h = refl
+  nothing_named kinds (Some (Variable kind)) h = absurd h
+  nothing_named kinds (Some (InstanceName made)) h = absurd h
+  nothing_named kinds (Some Broken) h = absurd h
 
-  main_named : (same : Bool) (count : Option ℕ) (known : Option Known) → IsListedAs functions number count known
+  main_named : (same : Bool) (kinds : Option (List ParamKind)) (known : Option Known) → IsListedAs functions number kinds known
       → IsNamedAs functions None (if same then Some (FunctionName number) else known)
-  main_named true count known h = refl
-  main_named false count known h = nothing_named count known h
+  main_named true kinds known h = refl
+  main_named false kinds known h = nothing_named kinds known h
 
 module _ (program : Program) (typed : IsTyped program) (from : IsFromTextWithin program) (form : has_vector_form program ≡ true) where
   abbrev told : (functions_faults program.functions 0 [] program.functions ++ input_faults_after [] (all_taken program) ≡ []) × (main_faults program ≡ [])
@@ -117,7 +118,7 @@ module _ (program : Program) (typed : IsTyped program) (from : IsFromTextWithin 
         scalars = λ number function low there. all_at takes_scalars all scalars number function there;
       } in
       let named : (name : List ℕ) → IsNamedAs all None (bound_to name within) =
-      λ name. main_named all r.number (same_bytes m.main.name name) (bound_to name r.counts) (bound_to name r.names) (r.listed.listed name) in
+      λ name. main_named all r.number (same_bytes m.main.name name) (bound_to name r.parameters) (bound_to name r.names) (r.listed.listed name) in
       let start : IsAt (known_in program) all r.number (names_within all r.number m.main r.names) [] [] = record {
         agree = record { named = subst (λ (l : Knowns). (name : List ℕ) → IsNamedAs all None (bound_to name l)) (sym names_are) named; known = r.known };
         maps = λ number instance e. let never : ⊥ = cc in absurd never;

@@ -7,9 +7,10 @@ use Rattle.sk_isa.specs.Soundness.{IsSoundCode, is_scalar}
 use Rattle.sk_isa.specs.declared.code.Code.{Code}
 use Rattle.sk_isa.specs.declared.object.Signature.{Signature}
 use Rattle.sk_plain.proofs.Lists.{all_from, slice_get-front, slice_get-one_more}
-use Rattle.sk_plain.specs.Plain.{ArePlain}
+use Rattle.sk_plain.specs.Plain.{ArePlain, takes_scalars}
 use Rattle.sk_scheme.specs.Scheme.{Known, codes_after, codes_of, signatures_after, signatures_of}
 use Rattle.sk_scheme_sound.proofs.SoundFunctions.{IsSoundFunction, functions_sound}
+use Rattle.sk_scheme_sound.proofs.SoundObjects.{params_scalar}
 use Rattle.sk_tree.specs.declared.tree.Function.{Function}
 
 pub codes-length : (number : ℕ) (known : List (List ℕ × Known)) (functions : List Function) → length (codes_after number known functions) ≡ length functions
@@ -46,11 +47,11 @@ module _ (functions : List Function) (plain : ArePlain [] functions) (main : Sig
           let within = slice_get_within (codes_of functions) function code e in
           absurd (omega (arith, within, last.1, codes-length 0 [] functions, signatures-length 0 [] functions))
 
-  pub all_scalars : list_all is_scalar main.slots ≡ true → All (λ (signature : Signature). list_all is_scalar signature.slots ≡ true) all
-  all_scalars own =
+  pub all_scalars : list_all takes_scalars functions ≡ true → list_all is_scalar main.slots ≡ true → All (λ (signature : Signature). list_all is_scalar signature.slots ≡ true) all
+  all_scalars scalars own =
       all_from (λ (signature : Signature). list_all is_scalar signature.slots ≡ true) all
       (λ k signature e. by_case k signature (slice_get-one_more (signatures_of functions) main k signature e))
     where
       by_case : (k : ℕ) (signature : Signature) → (slice_get (signatures_of functions) k ≡ Some signature) ⊎ ((main ≡ signature) × (k ≡ length (signatures_of functions))) → list_all is_scalar signature.slots ≡ true
-      by_case k signature (inl there) = (function_is_sound k signature there).2.scalars
+      by_case k signature (inl there) = (function_is_sound k signature there).2.scalars (params_scalar 0 [] functions scalars k signature there)
       by_case k signature (inr last) = subst (λ (s : Signature). list_all is_scalar s.slots ≡ true) last.0 own

@@ -10,7 +10,7 @@ use Rattle.sk_main_fits.specs.Mains.{known_in, main_body, main_of}
 use Rattle.sk_main_fits.specs.StatementFits.{start_standing}
 use Rattle.sk_main_fits.specs.Vectors.{IsMapOf, IsOfVectors, takes_scalars}
 use Rattle.sk_plain.proofs.Truths.{and_left, and_right}
-use Rattle.sk_plain.specs.Plain.{IsPlain}
+use Rattle.sk_plain.specs.Plain.{FunctionsTakeScalars, IsPlain}
 use Rattle.sk_scheme.specs.Plans.{functions_before_main, functions_object, plan_of, plans_in}
 use Rattle.sk_scheme.specs.Scheme.{Known}
 use Rattle.sk_tree.specs.Functions.{body_of}
@@ -33,6 +33,7 @@ use Rattle.sk_vector_laws.proofs.WrittenPrograms.{texts_named}
 -- what a typed program of vectors that a text has is
 pub record IsPlainly (program : Program) : Type 0 where
   pub plain : IsPlain program
+  pub scalars : FunctionsTakeScalars program
   pub vectors : list_all is_vector (all_held (map held_of (main_body program))).containers ≡ true
   pub maps : list_all makes_map (all_held (map held_of (main_body program))).instances ≡ true
   pub inputs : inputs_of program ≡ []
@@ -70,11 +71,13 @@ vectors_plain program typed from vectors =
     let maps : list_all makes_map (all_held (map held_of (main_body program))).instances ≡ true =
     sym (ap (λ (l : List instances.Instance). list_all makes_map l) held.instances) ∙ all_maps (known_in program) (main_of program).behind.instances vectors.maps in
     let form = statements_vectorly (main_body program) (known_in program) start_standing vectors.fits maps in
-    let plain : IsPlain program = typed_vectors_plain program typed from (record { functions = each_scalar (functions_before_main program) vectors.scalars; main = form.form }) in
+    let scalars : FunctionsTakeScalars program = each_scalar (functions_before_main program) vectors.scalars in
+    let plain : IsPlain program = typed_vectors_plain program typed from (record { functions = scalars; main = form.form }) in
     let plans : All (IsSoundPlan (functions_object program)) (plans_in (known_in program) (main_body program)) =
     subst (λ n. All (IsSoundPlan (functions_object program)) (plans_in (known_in program) (body_of (slice_get program.functions n)))) (count_is program) plain.instances in
     record {
       plain = plain;
+      scalars = scalars;
       vectors = form.vectors;
       maps = maps;
       inputs = no_inputs program form.none;

@@ -141,7 +141,7 @@ module _ (program : Program) (h : IsTypedOfVectors program) (object : Object) (s
   pub is_vector_object : IsVectorObject object
   is_vector_object = record {
     functions = subst (λ (l : List Signature). All (λ (signature : Signature). list_all is_scalar signature.slots ≡ true) l) (sym signatures_are)
-        (all_scalars functions plainly.plain.functions main (slots_scalar (placed_main program).behind.slots));
+        (all_scalars functions plainly.plain.functions main plainly.scalars (slots_scalar (placed_main program).behind.slots));
     instances = plans_maps (known_in program) (placed_main program).behind.instances object.instances (full_object program) stands.instances made_maps;
     containers = vectors_all object.containers containers_vectors;
     inputs = inputs_none;

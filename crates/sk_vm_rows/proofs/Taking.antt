@@ -10,7 +10,7 @@ use Rattle.sk_base.specs.Shape.{IsShape, cells_of, shape_of}
 use Rattle.sk_base.specs.ShapeLaws.{shape_of-some}
 use Rattle.sk_arguments.specs.Arguments.{Reading}
 use Rattle.sk_base.specs.declared.number.Ty.TheVariants.{Int}
-use Rattle.sk_plain.specs.Plain.{IsPlain}
+use Rattle.sk_plain.specs.Plain.{FunctionsTakeScalars, IsPlain}
 use Rattle.sk_isa.specs.Objects.{function_at, signature_at}
 use Rattle.sk_isa.specs.declared.object.Plan.{Plan}
 use Rattle.sk_kernel.specs.Instances.{function_meaning, instance_meaning, reading_of}
@@ -82,7 +82,8 @@ module _ {E : Type 0} (program : Program) (same : program ≡ rows_program) wher
   pub well-compiled : (result : Result Object E) → IfOk result (λ object. object ≡ functions_object program) → IfOk result IsCompiled
   well-compiled (Ok object) is =
       let plain : IsPlain program = rw same rows-plain in
-      is-compiled object (rw (is, same) refl) (subst HasSoundFunctions (sym is) (plain_is_sound program plain)) (scalars_are_places object (subst TakesScalars (sym is) (plain_takes_scalars program plain)))
+      let scalars : FunctionsTakeScalars program = rw same refl in
+      is-compiled object (rw (is, same) refl) (subst HasSoundFunctions (sym is) (plain_is_sound program plain)) (scalars_are_places object (subst TakesScalars (sym is) (plain_takes_scalars program plain scalars)))
   well-compiled (Err error) is = record {}
 
 -- a vector of one cell suits a frame of a function of ints

@@ -9,4 +9,4 @@ mod program;
 
 pub use laws::{code_means_source, code_runs_as_source};
 pub use program::compile;
-pub use sk_scheme_sound::plain_programs_are_sound;
+pub use sk_scheme_sound::{plain_functions_are_sound, plain_programs_are_sound};

@@ -1,6 +1,7 @@
 ghost use Rattle.std.specs.Prelude.{◌≡◌, true, IfOk};
 ghost use Rattle.sk_grammar.specs.Limits.{IsFromTextWithin};
 ghost use Rattle.sk_main_scheme.specs.Objects.{StandsFor, unmarked_of, object_of};
+ghost use Rattle.sk_plain.specs.Codes.{HasFunctionsOf};
 ghost use Rattle.sk_typing.specs.Typing.{IsTyped};
 ghost use Rattle.sk_vector_form.specs.VectorForm.{has_vector_form};
 ghost use Rattle.sk_vector_laws.specs.Vectors.{IsRunnable};
@@ -20,6 +21,9 @@ use std::alloc::{AllocError, Global};
 pub fn compile(alloc: Global, program: &Program) -> Result<Object, AllocError>
     ensures object { IfOk result (λ object. object ≡ unmarked_of (object_of program.now)) }
     ensures stands { IfOk result (λ object. StandsFor object program.now) }
+    // The functions of a program that a text has, and that keeps the rules of names and types, are sound and mean their sources,
+    // whatever parameters they take.
+    ensures functions { IsTyped program.now → IsFromTextWithin program.now → IfOk result (HasFunctionsOf program.now) }
     // A program of vectors that a text has, and that keeps the rules of names and types, is run by its compiled form.
     ensures runs { IsTyped program.now → IsFromTextWithin program.now → has_vector_form program.now ≡ true
         → IfOk result (λ object. IsRunnable object program.now) }

@@ -8,7 +8,9 @@ use Rattle.sk_kernel.specs.Kernels.{Agree, AgreeRun, AreValues, Meaning, Source,
 use Rattle.sk_kernel.specs.declared.kernel.RunTrap.{RunTrap}
 use Rattle.sk_formula.specs.Skeletons.{value_at}
 use Rattle.sk_seq.specs.Given.{AgreeAll, functions_over}
+use Rattle.sk_seq.specs.Operands.{operand_at}
 use Rattle.sk_seq.specs.Results.{AreComputed}
+use Rattle.sk_seq.specs.declared.operands.Operands.TheVariants.{Values}
 use Rattle.sk_seq.specs.declared.trapped.Trapped.{Trapped}
 
 take_all : (xs : List ℤ) (n : ℕ) → length xs ≡ n → take n xs ≡ xs
@@ -110,6 +112,16 @@ module _ (meaning : Meaning) (source : Source) (cells : ℕ → ℕ → ℤ) (fi
       (subst (λ (n : ℕ). trapped.offset < n) long values.0)
       (sym (single_value meaning (given_by source cells) first trapped.offset single) ∙ values.1)
       (λ k less. subst IsOk (single_value meaning (given_by source cells) first k single) (values.2 k less))
+
+-- the function's values as operands of a fold
+pub as_operands : (meaning : Meaning) (given : Given) (first : ℕ) (out : List ℤ) (result : Result (Unit {0}) RunTrap) → meaning.pairs ≡ false
+    → AreValues (run_value meaning given first 0) out result → AreValues (operand_at Values meaning given first) out result
+as_operands meaning given first out (Ok done) single values = λ k less. sym (single_value meaning given first k single) ∙ values k less
+as_operands meaning given first out (Err trapped) single values = (
+  values.0,
+  sym (single_value meaning given first trapped.offset single) ∙ values.1,
+  λ k less. subst IsOk (single_value meaning given first k single) (values.2 k less),
+)
 
 -- the elements of units of so many elements each
 pub of_units : (value : ℕ → Result ℤ Trap) (first from count many : ℕ) (out : List ℤ) (result : Result (Unit {0}) Trapped) → first ≡ from → count ≡ many

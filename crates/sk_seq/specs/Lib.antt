@@ -1,2 +1,4 @@
 pub mod Given
+pub mod Joinings
+pub mod Operands
 pub mod Results

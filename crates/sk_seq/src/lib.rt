@@ -2,10 +2,20 @@
 //!
 //! - `trapped`: a trap, with the element at which it stands.
 //! - `elements`: skeletons that give an element of the result for each place.
+//! - `joining`: how two cells of a fold are joined.
+//! - `operands`: what a fold goes over, block by block.
+//! - `folds`: folds of operands one behind another.
+//! - `reductions`: skeletons that fold all to a number.
 #![tactic(auto)]
 
 mod elements;
+mod folds;
+mod joining;
+mod operands;
+mod reductions;
 mod trapped;
 
 pub use elements::{call, map, map_overlap};
+pub use joining::Joining;
+pub use reductions::{map_reduce, reduce};
 pub use trapped::Trapped;

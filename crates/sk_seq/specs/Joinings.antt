@@ -1,0 +1,28 @@
+-- How two cells are joined.
+use Rattle.std.specs.Prelude.{◌≡◌, ℕ, ◌<◌, List, ℤ, pos, Option, Some, None, Result, Ok, Err, slice_index_or}
+use Rattle.sk_base.specs.Arithmetic.{InRange}
+use Rattle.sk_base.specs.declared.number.Trap.{Trap}
+use Rattle.sk_kernel.specs.Kernels.{IsJoined, Meaning}
+use Rattle.sk_seq.specs.declared.joining.Joining.{Joining}
+use Rattle.sk_seq.specs.declared.joining.Joining.TheVariants.{ByKernel, ByOperator}
+use Rattle.sk_tree.specs.Operators.{operator_value}
+
+-- it gives what the instance's operator gives
+abbrev pub JoinsAs : Joining → Meaning → Type 0
+JoinsAs ByKernel meaning = Unit {0}
+JoinsAs (ByOperator operator) meaning =
+    (meaning.operator ≡ Some operator.ty)
+    × ((a b : ℤ) → InRange operator.ty a → InRange operator.ty b → meaning.join a b ≡ Ok (operator_value operator a b))
+
+-- what stands in front of a fold, if anything, is of the operator's type
+abbrev pub MayStand : Meaning → Option ℤ → Type 0
+MayStand meaning None = Unit {0}
+MayStand meaning (Some front) = IsJoined meaning front
+
+-- the first so many cells are of the operator's type
+abbrev pub AreTaken : Meaning → (cells : List ℤ) → (count : ℕ) → Type 0
+AreTaken meaning cells count = (k : ℕ) → k < count → IsJoined meaning (slice_index_or cells k (pos 0))
+
+-- a cell of a list, as an operand
+abbrev pub cell_in : (cells : List ℤ) → ℕ → Result ℤ Trap
+cell_in cells k = Ok (slice_index_or cells k (pos 0))

@@ -1,2 +1,4 @@
 pub mod Folded
 pub mod Mapped
+pub mod PairLemmas
+pub mod ScanLemmas

@@ -1,7 +1,9 @@
 -- How two cells are joined.
-use Rattle.std.specs.Prelude.{◌≡◌, ℕ, ◌<◌, List, ℤ, pos, Option, Some, None, Result, Ok, Err, slice_index_or}
+use Rattle.std.specs.Prelude.{◌≡◌, ℕ, suc, ◌<◌, Bool, true, false, List, ℤ, pos, Option, Some, None, Result, Ok, Err, slice_index_or}
 use Rattle.sk_base.specs.Arithmetic.{InRange}
 use Rattle.sk_base.specs.declared.number.Trap.{Trap}
+use Rattle.sk_formula.specs.Elements.{folded}
+use Rattle.sk_formula.specs.Skeletons.{fold_value}
 use Rattle.sk_kernel.specs.Kernels.{IsJoined, Meaning}
 use Rattle.sk_seq.specs.declared.joining.Joining.{Joining}
 use Rattle.sk_seq.specs.declared.joining.Joining.TheVariants.{ByKernel, ByOperator}
@@ -26,3 +28,14 @@ AreTaken meaning cells count = (k : ℕ) → k < count → IsJoined meaning (sli
 -- a cell of a list, as an operand
 abbrev pub cell_in : (cells : List ℤ) → ℕ → Result ℤ Trap
 cell_in cells k = Ok (slice_index_or cells k (pos 0))
+
+-- the fold of a list's cells up to one, or before one
+abbrev pub fold_upto : Meaning → (front : Option ℤ) → (cells : List ℤ) → ℕ → Result ℤ Trap
+fold_upto meaning front cells k = fold_value (folded meaning.join (cell_in cells) front 0 (suc k))
+
+abbrev pub fold_before : Meaning → (front : Option ℤ) → (cells : List ℤ) → ℕ → Result ℤ Trap
+fold_before meaning front cells k = fold_value (folded meaning.join (cell_in cells) front 0 k)
+
+abbrev pub fold_in_scan : (exclusive : Bool) → Meaning → (front : Option ℤ) → (cells : List ℤ) → ℕ → Result ℤ Trap
+fold_in_scan true = fold_before
+fold_in_scan false = fold_upto

@@ -1,4 +1,5 @@
 pub mod Given
 pub mod Joinings
 pub mod Operands
+pub mod Pairs
 pub mod Results

@@ -57,7 +57,7 @@ pub fn map_overlap<K: Kernel, D: Data>(
 }
 
 /// Where units of so many elements each begin.
-fn first_place(units: Range, width: u32) -> u32
+pub fn first_place(units: Range, width: u32) -> u32
     requires { units.hi * width < 2 ^ 32 }
     ensures first { result ≡ units.lo * width }
     ensures end { result + (units.hi - units.lo) * width ≡ units.hi * width }

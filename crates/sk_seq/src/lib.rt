@@ -5,17 +5,23 @@
 //! - `joining`: how two cells of a fold are joined.
 //! - `operands`: what a fold goes over, block by block.
 //! - `folds`: folds of operands one behind another.
+//! - `pairs`: the function's values at pairs of places.
 //! - `reductions`: skeletons that fold all to a number.
+//! - `scans`: the folds up to each element, or before each.
 #![tactic(auto)]
 
 mod elements;
 mod folds;
 mod joining;
 mod operands;
+mod pairs;
 mod reductions;
+mod scans;
 mod trapped;
 
 pub use elements::{call, map, map_overlap};
 pub use joining::Joining;
+pub use pairs::map_pairs;
 pub use reductions::{map_reduce, reduce};
+pub use scans::scan;
 pub use trapped::Trapped;

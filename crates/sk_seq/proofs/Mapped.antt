@@ -1,5 +1,5 @@
 -- Values at consecutive indices, from what is known of each.
-use Rattle.std.proofs.Common.{◌≡◌, ◌∙◌, ℕ, zero, suc, ◌+◌, ◌-◌, ◌*◌, ◌<◌, ◌≤◌, Bool, true, false, List, [], ◌∷◌, ◌++◌, length, take, take-suc, ◌⊎◌, ℤ, pos, Ok, refl, ap, sym, subst, arith, inl, inr}
+use Rattle.std.proofs.Common.{◌≡◌, ◌∙◌, ℕ, zero, suc, ◌+◌, ◌-◌, ◌*◌, ◌<◌, ◌≤◌, Bool, false, List, [], ◌∷◌, ◌++◌, length, take, take-suc, ◌⊎◌, ℤ, pos, Ok, refl, ap, sym, subst, arith, inl, inr}
 use Rattle.std.specs.Prelude.{if◌then◌else◌, Result, Err, IsOk, slice_index_or, Option, Some, None, IsSome, IsSomeAnd, unwrap_or}
 use Rattle.sk_arguments.specs.Arguments.{Given}
 use Rattle.sk_base.specs.declared.number.Trap.{Trap}

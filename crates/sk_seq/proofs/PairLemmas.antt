@@ -1,18 +1,19 @@
 -- Rows of pairs.
 use Rattle.std.proofs.Common.{◌≡◌, ◌∙◌, ℕ, zero, suc, ◌+◌, ◌-◌, ◌*◌, ◌/◌, ◌%◌, ◌<◌, ◌≤◌, Bool, true, List, ◌++◌, length, ℤ, pos, Ok, refl, ap, sym, subst, arith, inl, inr}
-use Rattle.std.specs.Prelude.{if◌then◌else◌, Result, Err, IsOk, slice_index_or}
+use Rattle.std.specs.Prelude.{if◌then◌else◌, All, Err, IsOk, slice_index_or}
 use Rattle.std.proofs.lemmas.Bool.{cases_lt}
 use Rattle.std.proofs.lemmas.List.{get_or_append_left, get_or-append_right}
 use Rattle.std.proofs.lemmas.Nat.{div-mul-add, mod-mul-add}
 use Rattle.sk_arguments.specs.Arguments.{Given}
-use Rattle.sk_base.specs.declared.number.Trap.{Trap}
+use Rattle.sk_base.specs.Arithmetic.{InRange}
+use Rattle.sk_base.specs.declared.number.Ty.{Ty}
 use Rattle.sk_formula.specs.Elements.{mapped}
 use Rattle.sk_formula.specs.Skeletons.{Functions, pair_value}
 use Rattle.sk_kernel.specs.Kernels.{AreValues, Meaning, Source, given_by, run_value}
 use Rattle.sk_kernel.specs.declared.kernel.RunTrap.{RunTrap}
 use Rattle.sk_seq.proofs.Mapped.{all_values, least_trap}
 use Rattle.sk_seq.specs.Given.{functions_over}
-use Rattle.sk_seq.specs.Pairs.{ArePairs, pair_from}
+use Rattle.sk_seq.specs.Pairs.{AreOf, ArePairs, pair_from}
 
 -- the pair for which an index stands
 pub pair_is : (functions : Functions) (unit width pair place : ℕ) → place ≡ unit * width + pair → pair < width
@@ -48,6 +49,13 @@ module _ (meaning : Meaning) (source : Source) (cells : ℕ → ℕ → ℤ) (un
       sym (pair_run meaning (given_by source cells) unit pair pairs)
       ∙ values pair (subst (λ (n : ℕ). pair < n) (sym line_size) less)
       ∙ ap Ok (sym (at_pair pair less))
+
+  pub row_range : (ty : Ty) → All (InRange ty) line → (k : ℕ) → done ≤ k → k < done + width → InRange ty (slice_index_or (front ++ (line ++ back)) k (pos 0))
+  row_range ty all k upto less =
+      let back_is : done + (k - done) ≡ k = omega arith in
+      let small : k - done < width = omega arith in
+      subst (λ (n : ℕ). InRange ty (slice_index_or (front ++ (line ++ back)) n (pos 0))) back_is
+      (subst (InRange ty) (sym (at_pair (k - done) small)) (all (k - done) (pos 0) (subst (λ (n : ℕ). k - done < n) (sym line_size) small)))
 
   pub row_trapped : (trapped : RunTrap) → AreValues (run_value meaning (given_by source cells) unit 0) line (Err trapped)
       → ArePairs (functions_over meaning source cells) unit width done (front ++ (line ++ back)) (Err (record { trap = trapped.trap; offset = done + trapped.offset }))
@@ -139,3 +147,12 @@ place_fits unit hi (suc w) bound less few small =
   where
     spread : (d : ℕ) → (unit + 1 + d) * suc w ≡ unit * w + unit + suc w + d * suc w
     spread d = grind arith
+
+pub range_more : (now meaning : Meaning) (out after : List ℤ) (done width : ℕ) → now ≡ meaning → AreOf meaning.ty out done
+    → ((k : ℕ) → k < done → slice_index_or after k (pos 0) ≡ slice_index_or out k (pos 0))
+    → ((k : ℕ) → done ≤ k → k < done + width → InRange now.ty (slice_index_or after k (pos 0)))
+    → AreOf meaning.ty after (done + width)
+range_more now meaning out after done width same before kept more k less = elim (cases_lt k done) [
+  | inl small ↦ subst (InRange meaning.ty) (sym (kept k small)) (before k small)
+  | inr upto ↦ subst (λ (m : Meaning). InRange m.ty (slice_index_or after k (pos 0))) same (more k upto less)
+]

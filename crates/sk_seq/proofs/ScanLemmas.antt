@@ -1,11 +1,13 @@
 -- Folds up to each cell, and before each.
 use Rattle.std.proofs.Common.{◌≡◌, ◌≢◌, ◌∙◌, ℕ, suc, ◌+◌, ◌-◌, ◌<◌, ◌≤◌, Bool, true, false, List, length, ℤ, pos, Ok, refl, ap, sym, subst, arith, inl, inr}
-use Rattle.std.specs.Prelude.{if◌then◌else◌, Result, Err, IsOk, Option, Some, None, IsSome, IsSomeAnd, slice_index_or, slice_set, unwrap_or}
+use Rattle.std.specs.Prelude.{Result, Err, IsOk, Option, Some, None, IsSome, IsSomeAnd, slice_index_or, slice_set, unwrap_or}
 use Rattle.std.proofs.lemmas.Bool.{cases_lt}
 use Rattle.std.proofs.lemmas.Grind.{get_or-set_at}
 use Rattle.std.proofs.lemmas.List.{get_or-set_other}
 use Rattle.sk_base.specs.declared.number.Trap.{Trap}
-use Rattle.sk_formula.specs.Calls.{part_scan}
+use Rattle.sk_base.specs.Arithmetic.{InRange}
+use Rattle.sk_base.specs.declared.number.Ty.{Ty}
+use Rattle.sk_base.specs.declared.number.Ty.TheVariants.{Int, Long}
 use Rattle.sk_formula.specs.Elements.{TrapAt, folded, joined, mapped}
 use Rattle.sk_formula.specs.Skeletons.{cell_at, fold_value, prefix_fold}
 use Rattle.sk_kernel.specs.Kernels.{AreValues, IsJoined, Meaning, Source}
@@ -13,8 +15,7 @@ use Rattle.sk_kernel.specs.declared.kernel.RunTrap.{RunTrap}
 use Rattle.sk_seq.proofs.Folded.{cell_more, cell_traps, from_first, further}
 use Rattle.sk_seq.proofs.Mapped.{all_values, least_trap}
 use Rattle.sk_seq.specs.Given.{AgreeAll, functions_over}
-use Rattle.sk_seq.specs.Joinings.{AreTaken, cell_in, fold_before, fold_in_scan, fold_upto}
-use Rattle.sk_seq.specs.Operands.{HoldsTaken}
+use Rattle.sk_seq.specs.Joinings.{MayStand, cell_in, fold_before, fold_in_scan, fold_upto}
 
 below : (j k : ℕ) → j < k → j ≢ k
 below j k less = omega arith
@@ -67,6 +68,26 @@ before_traps now meaning orig front before k trap same is joins =
 
 pub ok_each : (value : ℕ → Result ℤ Trap) (cells : List ℤ) (k : ℕ) → ((j : ℕ) → j < k → value j ≡ Ok (slice_index_or cells j (pos 0))) → (j : ℕ) → j < k → IsOk (value j)
 ok_each value cells k each j less = subst IsOk (sym (each j less)) refl
+
+-- what is put in the place of a cell is of the operator's type
+zero_joined : (operator : Option Ty) (cell : ℤ) → IsSomeAnd operator (λ ty. InRange ty cell) → IsSomeAnd operator (λ ty. InRange ty (pos 0))
+zero_joined (Some Int) cell is = record { sfits = omega arith }
+zero_joined (Some Long) cell is = record { sfits = omega arith }
+zero_joined None cell is = absurd is
+
+pub stands_joined : (meaning : Meaning) (value : Option ℤ) (cell put : ℤ) → IsJoined meaning cell → MayStand meaning value → put ≡ unwrap_or value (pos 0) → IsJoined meaning put
+stands_joined meaning (Some front) cell put joined stands is = subst (IsJoined meaning) (sym is) stands
+stands_joined meaning None cell put joined stands is = subst (IsJoined meaning) (sym is) (zero_joined meaning.operator cell joined)
+
+pub put_joined : (meaning : Meaning) (out : List ℤ) (k : ℕ) (put : ℤ) → k < length out
+    → ((j : ℕ) → j < k → IsJoined meaning (slice_index_or out j (pos 0))) → IsJoined meaning put
+    → (j : ℕ) → j < k + 1 → IsJoined meaning (slice_index_or (slice_set out k put) j (pos 0))
+put_joined meaning out k put within earlier is j less = elim (cases_lt j k) [
+  | inl small ↦ subst (IsJoined meaning) (sym (get_or-set_other out k j put (pos 0) (below j k small))) (earlier j small)
+  | inr upto ↦
+      let same : j ≡ k = omega arith in
+      subst (IsJoined meaning) (sym (get_or-set_at out k j put (pos 0) same within)) is
+]
 
 -- the elements of a Scan
 value_further : (by : ℕ) (r : Result (Option ℤ) TrapAt) → fold_value (further by r) ≡ fold_value r

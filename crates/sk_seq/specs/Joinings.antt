@@ -1,5 +1,5 @@
 -- How two cells are joined.
-use Rattle.std.specs.Prelude.{◌≡◌, ℕ, suc, ◌<◌, Bool, true, false, List, ℤ, pos, Option, Some, None, Result, Ok, Err, slice_index_or}
+use Rattle.std.specs.Prelude.{◌≡◌, ℕ, suc, ◌<◌, Bool, true, false, List, ℤ, pos, Option, Some, None, Result, Ok, slice_index_or}
 use Rattle.sk_base.specs.Arithmetic.{InRange}
 use Rattle.sk_base.specs.declared.number.Trap.{Trap}
 use Rattle.sk_formula.specs.Elements.{folded}

@@ -1,5 +1,5 @@
 -- What a fold goes over.
-use Rattle.std.specs.Prelude.{◌≡◌, ℕ, ◌+◌, ◌<◌, ◌≤◌, false, List, ℤ, pos, Option, Some, None, Result, Ok, Err, IsSomeAnd, length, slice_index_or}
+use Rattle.std.specs.Prelude.{◌≡◌, ℕ, ◌+◌, ◌<◌, false, List, ℤ, pos, Option, Some, None, Result, Ok, Err, IsSomeAnd, length, slice_index_or}
 use Rattle.sk_arguments.specs.Arguments.{Given}
 use Rattle.sk_base.specs.Arithmetic.{InRange}
 use Rattle.sk_base.specs.declared.number.Trap.{Trap}

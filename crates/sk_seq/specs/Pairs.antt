@@ -1,6 +1,8 @@
 -- Rows of pairs.
 use Rattle.std.specs.Prelude.{◌≡◌, ℕ, ◌+◌, ◌<◌, ◌≤◌, List, ℤ, pos, Result, Ok, Err, IsOk, slice_index_or}
+use Rattle.sk_base.specs.Arithmetic.{InRange}
 use Rattle.sk_base.specs.declared.number.Trap.{Trap}
+use Rattle.sk_base.specs.declared.number.Ty.{Ty}
 use Rattle.sk_formula.specs.Skeletons.{Functions, pair_value}
 use Rattle.sk_kernel.specs.declared.kernel.RunTrap.{RunTrap}
 
@@ -16,3 +18,7 @@ ArePairs functions place width done cells (Err trapped) =
     (done ≤ trapped.offset) × (trapped.offset < done + width)
     × ((pair : ℕ) → trapped.offset ≡ done + pair → functions.value place pair ≡ Err trapped.trap)
     × ((pair : ℕ) → done + pair < trapped.offset → IsOk (functions.value place pair))
+
+-- the first so many cells are of a type
+abbrev pub AreOf : Ty → (cells : List ℤ) → (count : ℕ) → Type 0
+AreOf ty cells count = (k : ℕ) → k < count → InRange ty (slice_index_or cells k (pos 0))

@@ -91,7 +91,14 @@ fn at_places<K: Kernel, D: Data>(
     ensures count { length out.new ≡ length out.old }
     ensures same { K.means kernel.new ≡ K.means kernel.old }
 {
-    match kernel.apply_each(source, At { place: first, pair: 0 }, out) {
+    match kernel.apply_each(
+        source,
+        At {
+            place: first,
+            pair: 0,
+        },
+        out,
+    ) {
         Ok(()) => Ok(()),
         Err(trapped) => Err(Trapped {
             trap: trapped.trap,

@@ -134,7 +134,9 @@ pub fn fold_part<K: Kernel, D: Data>(
     let mut done = part.lo;
     while done < part.hi {
         let count = (part.hi - done).min(BLOCK as u32);
-        match fold_piece(kernel, joining, operands, source, done, count, folded, &mut block) {
+        match fold_piece(
+            kernel, joining, operands, source, done, count, folded, &mut block,
+        ) {
             Ok(more) => folded = more,
             Err(trapped) => return Err(trapped),
         }

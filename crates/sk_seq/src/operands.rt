@@ -73,7 +73,14 @@ fn fill<K: Kernel, D: Data>(
             load(source, first, out);
             Ok(())
         }
-        Operands::Values => kernel.apply_each(source, At { place: first, pair: 0 }, out),
+        Operands::Values => kernel.apply_each(
+            source,
+            At {
+                place: first,
+                pair: 0,
+            },
+            out,
+        ),
     }
 }
 

@@ -1,8 +1,9 @@
-ghost use Rattle.std.specs.Prelude.{◌≡◌, ℕ, ℤ, ◌-◌, ◌+◌, ◌*◌, ◌<◌, ◌≤◌, ◌^◌, IfErr, length, pos, slice_index_or, true};
+ghost use Rattle.std.specs.Prelude.{◌≡◌, ℕ, ℤ, ◌-◌, ◌+◌, ◌*◌, ◌<◌, ◌≤◌, ◌^◌, IfErr, IfOk, length, pos, slice_index_or, true};
+ghost use Rattle.sk_base.specs.Arithmetic.{InRange};
 ghost use Rattle.sk_formula.specs.Calls.{unit_elements, units_value};
 ghost use Rattle.sk_kernel.specs.Kernels.{AreValues, SuitsRun};
 ghost use Rattle.sk_seq.specs.Given.{AgreeAll, functions_over, sizes_in};
-ghost use Rattle.sk_seq.specs.Pairs.{ArePairs, pair_from};
+ghost use Rattle.sk_seq.specs.Pairs.{AreOf, ArePairs, pair_from};
 ghost use Rattle.sk_seq.specs.Results.{AreComputed};
 ghost use Rattle.sk_tree.specs.declared.tree.Skeleton.TheVariants.{MapPairs};
 
@@ -27,6 +28,7 @@ pub fn map_pairs<K: Kernel, D: Data>(
     requires suits { (unit : ℕ) → units.lo ≤ unit → unit < units.hi → SuitsRun (K.means kernel.old) (D.means source.now) unit 0 (unit_elements MapPairs (sizes_in (D.means source.now))) }
     ensures values { (cells : ℕ → ℕ → ℤ) → AgreeAll (D.means source.now) cells
         → AreComputed (units_value MapPairs settings.now (sizes_in (D.means source.now)) (functions_over (K.means kernel.old) (D.means source.now) cells) units.lo units.hi) out.new result }
+    ensures range { IfOk result (λ done. AreOf (K.means kernel.old).ty out.new (length out.old)) }
     ensures count { length out.new ≡ length out.old }
     ensures same { K.means kernel.new ≡ K.means kernel.old }
 {
@@ -55,6 +57,7 @@ fn rows<K: Kernel, D: Data>(
     requires suits { (unit : ℕ) → units.lo ≤ unit → unit < units.hi → SuitsRun (K.means kernel.old) (D.means source.now) unit 0 width }
     ensures values { (cells : ℕ → ℕ → ℤ) → AgreeAll (D.means source.now) cells
         → AreValues (pair_from (functions_over (K.means kernel.old) (D.means source.now) cells) width (units.lo * width)) out.new result }
+    ensures range { IfOk result (λ done. AreOf (K.means kernel.old).ty out.new (length out.old)) }
     ensures inside { IfErr result (λ trapped. trapped.offset < length out.old) }
     ensures count { length out.new ≡ length out.old }
     ensures same { K.means kernel.new ≡ K.means kernel.old }
@@ -85,6 +88,7 @@ fn row<K: Kernel, D: Data>(
     requires suits { SuitsRun (K.means kernel.old) (D.means source.now) unit 0 width }
     ensures values { (cells : ℕ → ℕ → ℤ) → AgreeAll (D.means source.now) cells
         → ArePairs (functions_over (K.means kernel.old) (D.means source.now) cells) unit width done out.new result }
+    ensures range { IfOk result (λ ended. (k : ℕ) → done ≤ k → k < done + width → InRange (K.means kernel.old).ty (slice_index_or out.new k (pos 0))) }
     ensures before { (k : ℕ) → k < done → slice_index_or out.new k (pos 0) ≡ slice_index_or out.old k (pos 0) }
     ensures inside { IfErr result (λ trapped. trapped.offset < length out.old) }
     ensures count { length out.new ≡ length out.old }
@@ -92,7 +96,14 @@ fn row<K: Kernel, D: Data>(
 {
     let (_, rest) = out.split_at_mut(done);
     let (line, _) = rest.split_at_mut(width as usize);
-    match kernel.apply_each(source, At { place: unit, pair: 0 }, line) {
+    match kernel.apply_each(
+        source,
+        At {
+            place: unit,
+            pair: 0,
+        },
+        line,
+    ) {
         Ok(()) => Ok(()),
         Err(trapped) => Err(RunTrap {
             trap: trapped.trap,

@@ -1,4 +1,4 @@
-ghost use Rattle.std.specs.Prelude.{◌≡◌, ℕ, ℤ, ◌-◌, ◌<◌, ◌^◌, length, IfErr};
+ghost use Rattle.std.specs.Prelude.{◌≡◌, ℕ, ℤ, ◌-◌, ◌<◌, ◌^◌, length, IfErr, IfOk};
 ghost use Rattle.sk_formula.specs.Calls.{part_scan};
 ghost use Rattle.sk_kernel.specs.Kernels.{AreValues};
 ghost use Rattle.sk_seq.specs.Given.{AgreeAll, functions_over};
@@ -30,6 +30,7 @@ pub fn scan<K: Kernel, D: Data>(
     requires held { HoldsTaken (K.means kernel.old) (D.means source.now) part.lo (length out.old) }
     ensures values { (cells : ℕ → ℕ → ℤ) → AgreeAll (D.means source.now) cells
         → AreComputed (part_scan (functions_over (K.means kernel.old) (D.means source.now) cells) settings.now.exclusive front part.lo part.hi) out.new result }
+    ensures range { IfOk result (λ done. AreTaken (K.means kernel.old) out.new (length out.old)) }
     ensures count { length out.new ≡ length out.old }
     ensures same { K.means kernel.new ≡ K.means kernel.old }
 {
@@ -56,6 +57,7 @@ fn scan_cells<K: Kernel>(
     requires front { MayStand (K.means kernel.old) front }
     requires cells { AreTaken (K.means kernel.old) out.old (length out.old) }
     ensures values { AreValues (fold_in_scan exclusive (K.means kernel.old) front out.old) out.new result }
+    ensures range { IfOk result (λ done. AreTaken (K.means kernel.old) out.new (length out.old)) }
     ensures inside { IfErr result (λ trapped. trapped.offset < length out.old) }
     ensures count { length out.new ≡ length out.old }
     ensures same { K.means kernel.new ≡ K.means kernel.old }
@@ -79,6 +81,7 @@ fn scan_upto<K: Kernel>(
     requires front { MayStand (K.means kernel.old) front }
     requires cells { AreTaken (K.means kernel.old) out.old (length out.old) }
     ensures values { AreValues (fold_upto (K.means kernel.old) front out.old) out.new result }
+    ensures range { IfOk result (λ done. AreTaken (K.means kernel.old) out.new (length out.old)) }
     ensures inside { IfErr result (λ trapped. trapped.offset < length out.old) }
     ensures count { length out.new ≡ length out.old }
     ensures same { K.means kernel.new ≡ K.means kernel.old }
@@ -113,6 +116,7 @@ fn scan_before<K: Kernel>(
     requires front { MayStand (K.means kernel.old) front }
     requires cells { AreTaken (K.means kernel.old) out.old (length out.old) }
     ensures values { AreValues (fold_before (K.means kernel.old) front out.old) out.new result }
+    ensures range { IfOk result (λ done. AreTaken (K.means kernel.old) out.new (length out.old)) }
     ensures inside { IfErr result (λ trapped. trapped.offset < length out.old) }
     ensures count { length out.new ≡ length out.old }
     ensures same { K.means kernel.new ≡ K.means kernel.old }

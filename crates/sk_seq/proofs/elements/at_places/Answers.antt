@@ -7,7 +7,7 @@ overflow_add-result g c =
     let meaning = g.K.Kernel.means c.args.kernel.now in
     let source = g.D.Data.means c.args.source.now in
     let values = c.in-Err.ensures.values (cells_held source)
-        (agree_run meaning source c.args.first 0 (length c.args.out.now) (cells_held source) c.requires.suits (agree_held source)) in
+    (agree_run meaning source c.args.first 0 (length c.args.out.now) (cells_held source) c.requires.suits (agree_held source)) in
     let less : c.in-Err.trapped.offset < length c.apply_each.new.out = values.0 in
     let long : length c.apply_each.new.out ≡ length c.args.out.now = c.apply_each.ensures.count in
     record { fits = omega arith }

@@ -1,4 +1,4 @@
-use Rattle.std.proofs.Common.{◌≡◌, length}
+use Rattle.std.proofs.Common.{length}
 use Rattle.sk_kernel.specs.Kernels.{given_by}
 use Rattle.sk_seq.proofs.Folded.{filled_traps, filled_upto, filled_whole}
 use Rattle.sk_seq.proofs.folds.fold_block.Goals as goal

@@ -1,5 +1,5 @@
-use Rattle.std.proofs.Common.{◌≡◌, ◌∙◌, ◌<◌, ◌≤◌, ◌++◌, ℕ, ℤ, pos, Ok, length, length-append, ap, sym, subst, arith}
-use Rattle.std.specs.Prelude.{Err, IsOk, Result, slice_index_or}
+use Rattle.std.proofs.Common.{◌≡◌, ◌∙◌, ◌<◌, ℤ, pos, Ok, length, length-append, ap, sym, subst, arith}
+use Rattle.std.specs.Prelude.{Err, IsOk, Result}
 use Rattle.std.proofs.lemmas.List.{get_or_append_left}
 use Rattle.sk_base.specs.declared.number.Trap.{Trap}
 use Rattle.sk_kernel.specs.Kernels.{Meaning, given_by}

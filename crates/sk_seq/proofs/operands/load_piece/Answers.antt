@@ -1,5 +1,5 @@
 use Rattle.std.proofs.Common.{◌≡◌, ◌∙◌, ◌-◌, ◌+◌, ◌<◌, ℕ, List, ◌++◌, ℤ, pos, length, ap, sym, subst, arith}
-use Rattle.std.specs.Prelude.{Some, IsSome, slice_get, slice_index_or}
+use Rattle.std.specs.Prelude.{Some, IsSome, slice_index_or}
 use Rattle.std.proofs.lemmas.List.{get_or_append_left, get_or-append_right}
 use Rattle.std.proofs.lemmas.Option.{slice_get-get_or}
 use Rattle.sk_seq.proofs.operands.load_piece.Goals as goal

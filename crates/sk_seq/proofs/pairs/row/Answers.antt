@@ -1,7 +1,7 @@
 use Rattle.std.proofs.Common.{◌≡◌, ◌<◌, ◌∙◌, length, arith, sym, subst}
 use Rattle.sk_kernel.specs.Kernels.{SuitsRun}
 use Rattle.sk_seq.proofs.Mapped.{agree_held, agree_run, cells_held}
-use Rattle.sk_seq.proofs.PairLemmas.{row_done, row_trapped}
+use Rattle.sk_seq.proofs.PairLemmas.{row_done, row_range, row_trapped}
 use Rattle.sk_seq.proofs.pairs.row.Goals as goal
 use Rattle.std.proofs.Common.{ℕ}
 
@@ -20,8 +20,8 @@ overflow_add-result g c =
     let source = g.D.Data.means c.args.source.now in
     let size : length c.split_at_mut-line.result.0.now ≡ c.args.width = c.split_at_mut-line.ensures.front_len in
     let values = c.in-Err.ensures.values (cells_held source)
-        (agree_run meaning source c.args.unit 0 (length c.split_at_mut-line.result.0.now) (cells_held source)
-        (subst (λ (n : ℕ). SuitsRun meaning source c.args.unit 0 n) (sym size) c.requires.suits) (agree_held source)) in
+    (agree_run meaning source c.args.unit 0 (length c.split_at_mut-line.result.0.now) (cells_held source)
+    (subst (λ (n : ℕ). SuitsRun meaning source c.args.unit 0 n) (sym size) c.requires.suits) (agree_held source)) in
     let less : c.in-Err.trapped.offset < length c.apply_each.new.out = values.0 in
     let long : length c.apply_each.new.out ≡ length c.split_at_mut-line.result.0.now = c.apply_each.ensures.count in
     record { fits = omega arith }
@@ -52,8 +52,16 @@ returns-in-Err-clause-inside g c =
     let source = g.D.Data.means c.args.source.now in
     let size : length c.split_at_mut-line.result.0.now ≡ c.args.width = c.split_at_mut-line.ensures.front_len in
     let values = c.in-Err.ensures.values (cells_held source)
-        (agree_run meaning source c.args.unit 0 (length c.split_at_mut-line.result.0.now) (cells_held source)
-        (subst (λ (n : ℕ). SuitsRun meaning source c.args.unit 0 n) (sym size) c.requires.suits) (agree_held source)) in
+    (agree_run meaning source c.args.unit 0 (length c.split_at_mut-line.result.0.now) (cells_held source)
+    (subst (λ (n : ℕ). SuitsRun meaning source c.args.unit 0 n) (sym size) c.requires.suits) (agree_held source)) in
     let less : c.in-Err.trapped.offset < length c.apply_each.new.out = values.0 in
     let long : length c.apply_each.new.out ≡ length c.split_at_mut-line.result.0.now = c.apply_each.ensures.count in
     omega arith
+
+pub returns-in-Ok-clause-range : goal.returns-in-Ok-clause-range
+returns-in-Ok-clause-range g c =
+    let meaning = g.K.Kernel.means c.args.kernel.now in
+    let source = g.D.Data.means c.args.source.now in
+    let size : length c.split_at_mut-line.result.0.now ≡ c.args.width = c.split_at_mut-line.ensures.front_len in
+    row_range meaning source (cells_held source) c.args.unit c.args.width c.args.done c.split_at_mut-rest.result.0.now c.apply_each.new.out c.split_at_mut-line.result.1.now
+    c.requires.pairs c.split_at_mut-rest.ensures.front_len (c.apply_each.ensures.count ∙ size) meaning.ty c.in-Ok.ensures.range

@@ -1,11 +1,8 @@
-use Rattle.std.proofs.Common.{◌≡◌, ◌∙◌, ◌+◌, ◌-◌, ◌*◌, ◌<◌, ◌≤◌, ℕ, ℤ, pos, length, arith, rules, sym, subst}
-use Rattle.std.specs.Prelude.{Ok, Err}
-use Rattle.sk_kernel.specs.Kernels.{AreValues, Meaning, SuitsRun}
+use Rattle.std.proofs.Common.{◌≡◌, ◌∙◌, ◌*◌, ◌<◌, length, arith, rules, sym, subst}
+use Rattle.sk_kernel.specs.Kernels.{Meaning, SuitsRun}
 use Rattle.sk_seq.proofs.Mapped.{units_end}
-use Rattle.sk_seq.proofs.PairLemmas.{none_left, place_fits, row_left, row_next, rows_more, rows_trapped}
+use Rattle.sk_seq.proofs.PairLemmas.{none_left, place_fits, range_more, row_left, row_next, rows_more, rows_trapped}
 use Rattle.sk_seq.proofs.pairs.rows.Goals as goal
-use Rattle.sk_seq.specs.Given.{functions_over}
-use Rattle.sk_seq.specs.Pairs.{pair_from}
 
 pub row-requires-clause-within : goal.row-requires-clause-within
 row-requires-clause-within g c =
@@ -40,6 +37,8 @@ loop-unit-preserved g c =
       λ cells agree.
           rows_more (g.K.Kernel.means c.loop-unit.kernel) (g.K.Kernel.means c.args.kernel.now) (g.D.Data.means c.args.source.now) cells c.loop-unit.unit c.args.width (c.args.units.lo * c.args.width) c.loop-unit.done
           c.loop-unit.out c.row.new.out c.loop-unit.invariant.0 c.loop-unit.invariant.2 (c.loop-unit.invariant.4 cells agree) c.row.ensures.before (c.in-Ok.ensures.values cells agree),
+      range_more (g.K.Kernel.means c.loop-unit.kernel) (g.K.Kernel.means c.args.kernel.now) c.loop-unit.out c.row.new.out c.loop-unit.done c.args.width
+          c.loop-unit.invariant.0 c.loop-unit.invariant.5 c.row.ensures.before c.in-Ok.ensures.range,
     )
 
 pub returns-in-Err-clause-values : goal.returns-in-Err-clause-values
@@ -55,3 +54,8 @@ returns-clause-values g c cells agree k less =
     let none = none_left c.args.units.hi c.loop-unit.unit c.args.width c.loop-unit-test.false in
     let size : length c.loop-unit.out ≡ length c.args.out.now = c.loop-unit.invariant.1 in
     c.loop-unit.invariant.4 cells agree k (omega (arith, none, c.loop-unit.invariant.3))
+
+pub returns-clause-range : goal.returns-clause-range
+returns-clause-range g c k less =
+    let none = none_left c.args.units.hi c.loop-unit.unit c.args.width c.loop-unit-test.false in
+    c.loop-unit.invariant.5 k (omega (arith, none, c.loop-unit.invariant.3))

@@ -1,5 +1,5 @@
 -- The functions of a typed program's compiled form are sound, and mean their sources.
-use Rattle.std.proofs.Common.{◌≡◌, List, [], ◌∷◌, length, arith, length-append}
+use Rattle.std.proofs.Common.{◌≡◌, suc, List, [], ◌∷◌, ◌++◌, length, arith, length-append}
 use Rattle.sk_grammar.specs.Limits.{IsFromTextWithin}
 use Rattle.sk_isa.specs.declared.object.Signature.{Signature}
 use Rattle.sk_main_runs.proofs.SameFunctions.{means_alike}

@@ -78,7 +78,7 @@ next_is : (k : ℕ) → k + 1 ≡ suc k
 next_is k = omega arith
 
 -- one operand more
-more_is : (join : ℤ → ℤ → Result ℤ Trap) (operand : ℕ → Result ℤ Trap) (front before : Option ℤ) (k : ℕ) (x : Result ℤ Trap)
+pub more_is : (join : ℤ → ℤ → Result ℤ Trap) (operand : ℕ → Result ℤ Trap) (front before : Option ℤ) (k : ℕ) (x : Result ℤ Trap)
     → folded join operand front 0 k ≡ Ok before → operand k ≡ x
     → folded join operand front 0 (k + 1) ≡ fold_last join k (Ok before) x
 more_is join operand front before k x is operand_is =

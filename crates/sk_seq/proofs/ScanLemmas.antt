@@ -32,7 +32,7 @@ pub kept_behind : (out orig : List ℤ) (k : ℕ) (put : ℤ) → ((j : ℕ) →
 kept_behind out orig k put kept j from = get_or-set_other out k j put (pos 0) (above j k from) ∙ kept j (omega arith)
 
 -- one more value in its place
-put_more : (value : ℕ → Result ℤ Trap) (out : List ℤ) (k : ℕ) (put : ℤ) → k < length out
+pub put_more : (value : ℕ → Result ℤ Trap) (out : List ℤ) (k : ℕ) (put : ℤ) → k < length out
     → ((j : ℕ) → j < k → value j ≡ Ok (slice_index_or out j (pos 0))) → value k ≡ Ok put
     → (j : ℕ) → j < k + 1 → value j ≡ Ok (slice_index_or (slice_set out k put) j (pos 0))
 put_more value out k put within earlier is j less = elim (cases_lt j k) [
@@ -90,7 +90,7 @@ put_joined meaning out k put within earlier is j less = elim (cases_lt j k) [
 ]
 
 -- the elements of a Scan
-value_further : (by : ℕ) (r : Result (Option ℤ) TrapAt) → fold_value (further by r) ≡ fold_value r
+pub value_further : (by : ℕ) (r : Result (Option ℤ) TrapAt) → fold_value (further by r) ≡ fold_value r
 value_further by (Ok value) = refl
 value_further by (Err trapped) = refl
 

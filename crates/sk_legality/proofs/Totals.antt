@@ -214,3 +214,8 @@ first-results = refl
 second-results : kernel_values scanning differences (λ total. pos 87)
     (record { kind = ScanKernel; part = 1; lo = 2; hi = 3; units = range 2 3; space = 0 }) ≡ Ok (pos 87 ∷ [])
 second-results = refl
+
+-- where there are three parts, the total of the second one takes in that of the first, which stands on the left
+second-total : kernel_values scanning differences (λ total. elim total [ zero ↦ pos 87 | suc more ↦ pos 3 ])
+    (record { kind = Join; part = 1; lo = 0; hi = 1; units = range 0 0; space = 0 }) ≡ Ok (pos 84 ∷ [])
+second-total = refl

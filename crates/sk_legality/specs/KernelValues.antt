@@ -1,5 +1,5 @@
 -- What a kernel gives for the cells that it reads.
-use Rattle.std.specs.Prelude.{ℕ, ◌-◌, ◌==◌, if◌then◌else◌, List, [], ◌∷◌, map, ℤ, pos, Option, Some, None, Result, Ok, Err, option_map, slice_get, unwrap_or}
+use Rattle.std.specs.Prelude.{ℕ, ◌-◌, ◌==◌, if◌then◌else◌, List, [], ◌∷◌, map, ℤ, pos, Option, Some, None, Result, Ok, Err, option_map, slice_get, unwrap_or, min, max}
 use Rattle.sk_arguments.specs.Arguments.{Given}
 use Rattle.sk_blocks.specs.Calls.{SizedCall, sizes_of}
 use Rattle.sk_blocks.specs.Kernels.{KernelRun}
@@ -42,13 +42,14 @@ abbrev pub one_total : Result (Option ℤ) TrapAt → Result (List ℤ) TrapAt
 one_total (Ok value) = Ok (unwrap_or value (pos 0) ∷ [])
 one_total (Err trapped) = Err trapped
 
--- The cells that a kernel gives, or its trap at the least element. An operator that joins totals is associative and does not
--- trap; one that is wrongly marked so would trap at the total that is taken in.
+-- The cells that a kernel gives, or its trap at the least element. Of two totals that are joined the one with the lower number
+-- stands on the left. An operator that joins totals is associative and does not trap; one that is wrongly marked so would trap
+-- at the total that is taken in.
 abbrev pub kernel_values : SizedCall → Functions → (totals : ℕ → ℤ) → KernelRun → Result (List ℤ) TrapAt
 kernel_values call functions totals run = elim run.kind [
   | Element ↦ units_value call.skeleton call.settings (sizes_of call) functions run.units.lo run.units.hi
   | Fold ↦ one_total (part_fold call.skeleton functions (fold_front call run.part) run.units.lo run.units.hi)
-  | Join ↦ one_cell (at_element run.lo (functions.join (totals run.part) (totals run.lo)))
+  | Join ↦ one_cell (at_element run.lo (functions.join (totals (min run.part run.lo)) (totals (max run.part run.lo))))
   | ScanKernel ↦ part_scan functions call.settings.exclusive (results_front call totals run.part) run.units.lo run.units.hi
   | Value ↦ one_cell (at_element 0 (value_at functions 0))
 ]
